@@ -1,6 +1,6 @@
 //! Lists of different numbers.
 
-ghost use Rattle.std.specs.Prelude.{◌≡◌, ◌+◌, ◌/◌, ◌≤◌, [], OnErr, OnOk, max};
+ghost use Rattle.std.specs.Prelude.{◌≡◌, ◌+◌, ◌*◌, ◌/◌, ◌<◌, ◌≤◌, ℕ, [], OnErr, OnOk, length, max};
 ghost use Rattle.graphql_number_sets.specs.NumberSets.{AreExact, IsAdded, numbers_of, words_of};
 
 use super::bit_sets::BitSet;
@@ -40,6 +40,9 @@ impl DistinctNumbers {
         ensures exact { AreExact self.new }
         ensures added { OnOk result (IsAdded number (numbers_of self.old) (numbers_of self.new)) }
         ensures refused { OnErr result (numbers_of self.new ≡ numbers_of self.old) }
+        // It takes no more words than one row of bits for each number that comes to it.
+        ensures each { OnOk result ((bound : ℕ) → number < bound →
+            words_of self.new.members + length (numbers_of self.old) * (bound / 64 + 1) ≤ words_of self.old.members + length (numbers_of self.new) * (bound / 64 + 1)) }
         ensures words { words_of self.new.members ≤ max (words_of self.old.members) (number / 64 + 1) }
         ensures cost { steps.new + words_of self.old.members ≤ steps.old + words_of self.new.members + 2 }
     {

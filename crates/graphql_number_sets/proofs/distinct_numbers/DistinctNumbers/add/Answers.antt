@@ -1,4 +1,4 @@
-use Rattle.std.proofs.Common.{sym, true, false, ◌≡◌, ◌-◌, ◌∙◌, arith, vec_len}
+use Rattle.std.proofs.Common.{sym, true, false, ◌≡◌, ◌+◌, ◌*◌, ◌/◌, ◌-◌, ap, length, ◌∙◌, arith, vec_len}
 use Rattle.graphql_number_sets.proofs.NumberLemmas.{added, exact_again, popped}
 use Rattle.graphql_number_sets.proofs.distinct_numbers.DistinctNumbers.add.Goals as goal
 
@@ -15,3 +15,11 @@ returns-in-Err-clause-exact g c =
     popped old.items c.push.new.self.items c.pop.new.self.items c.args.number (vec_len c.push.new.self - 1) c.in_ok-push.ensures.items c.pop.ensures.rest
     (omega (arith, c.in_ok-push.ensures.len, old.ok.0)) in
     exact_again c.args.self.now (record { numbers = c.pop.new.self; members = c.insert.new.self }) c.requires same c.in-Err.ensures.refused
+
+pub returns-clause-each : goal.returns-clause-each
+returns-clause-each g c = λ bound below.
+    let longer : length c.push.new.self.items ≡ length c.args.self.now.numbers.items + 1 = omega (arith, c.in_ok-push.ensures.len, c.args.self.now.numbers.ok.0, c.push.new.self.ok.0) in
+    omega (arith, below, c.insert.ensures.words, ap (λ n. n * (bound / 64 + 1)) longer)
+
+pub returns-then-contains-clause-each : goal.returns-then-contains-clause-each
+returns-then-contains-clause-each g c = λ bound below. omega arith
