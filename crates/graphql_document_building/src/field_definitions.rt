@@ -6,10 +6,13 @@ ghost use Rattle.graphql_documents.specs.declared.documents.definitions.FieldDef
 ghost use Rattle.graphql_nodes.specs.Names.{NameText, is_name};
 ghost use Rattle.graphql_nodes.specs.declared.nodes.Node as node_type;
 ghost use Rattle.graphql_document_building.specs.Documents.{IsRoot, default_root_name};
-ghost use Rattle.graphql_document_building.specs.FieldDefinitions.{IsProper, schema_of};
+ghost use Rattle.std.specs.Option.{option_copied};
+ghost use Rattle.graphql_documents.specs.Schemas.{type_definition};
+ghost use Rattle.graphql_document_building.specs.FieldDefinitions.{IsProper, IsTypeIn, schema_of};
 ghost use Rattle.graphql_document_building.specs.Selections.{DefinesField, IsUnknownField};
 
-use graphql_documents::documents::{FieldDefinition, Schema, Type};
+use crate::type_fields::field_of_type;
+use graphql_documents::documents::{ExtendedType, FieldDefinition, Schema, Type};
 use graphql_nodes::{Name, NamedType, Node, OperationType, ValidationError};
 use std::alloc::Global;
 
@@ -23,14 +26,30 @@ pub(crate) enum FieldDefinitions<'a> {
 }
 
 impl<'a> FieldDefinitions<'a> {
-    /// The definition of a field of a type.
-    pub(crate) fn of_field(&self, parent: &NamedType, name: &Name) -> &'a Node<FieldDefinition>
+    /// The definition of the type of this name, if there is one.
+    pub(crate) fn of_type(&self, name: &NamedType) -> Option<&'a ExtendedType>
+        ensures { IsTypeIn (schema_of self.now) name.now (option_copied result) }
+    {
+        match self {
+            FieldDefinitions::OfSchema(schema) => schema.types.get(name),
+            FieldDefinitions::Unknown(_) => None,
+        }
+    }
+
+    /// The definition of a field of a type that was looked up.
+    pub(crate) fn of_field(
+        &self,
+        parent: &NamedType,
+        parent_type: Option<&'a ExtendedType>,
+        name: &Name,
+    ) -> &'a Node<FieldDefinition>
         requires proper { IsProper self.now }
+        requires parent_type { IsTypeIn (schema_of self.now) parent.now (option_copied parent_type) }
         requires defined { (d : node_type.Node definition_type.FieldDefinition) × DefinesField (schema_of self.now) parent.now name.now d }
         ensures { DefinesField (schema_of self.now) parent.now name.now result.now }
     {
         match self {
-            FieldDefinitions::OfSchema(schema) => defined_field(schema, parent, name),
+            FieldDefinitions::OfSchema(schema) => defined_field(schema, parent, parent_type, name),
             FieldDefinitions::Unknown(definition) => definition,
         }
     }
@@ -58,12 +77,14 @@ impl<'a> FieldDefinitions<'a> {
 fn defined_field<'a>(
     schema: &'a Schema,
     parent: &NamedType,
+    parent_type: Option<&'a ExtendedType>,
     name: &Name,
 ) -> &'a Node<FieldDefinition>
-    requires { (d : node_type.Node definition_type.FieldDefinition) × DefinesField (Some schema.now) parent.now name.now d }
+    requires parent_type { option_copied parent_type ≡ type_definition schema.now parent.now }
+    requires defined { (d : node_type.Node definition_type.FieldDefinition) × DefinesField (Some schema.now) parent.now name.now d }
     ensures { DefinesField (Some schema.now) parent.now name.now result.now }
 {
-    match schema.type_field(parent, name) {
+    match field_of_type(schema, parent, parent_type, name) {
         Ok(definition) => &definition.node,
         Err(_) => unreachable!(),
     }

@@ -2,7 +2,8 @@
 
 ghost use Rattle.std.specs.Prelude.{◌≡◌, ◌∷◌, [], IfOk, unwrap_or};
 ghost use Rattle.graphql_document_building.specs.BuildingRules.{SelectionsBuildIn};
-ghost use Rattle.graphql_document_building.specs.FieldDefinitions.{IsProper, schema_of};
+ghost use Rattle.std.specs.Option.{option_copied};
+ghost use Rattle.graphql_document_building.specs.FieldDefinitions.{IsProper, IsTypeIn, schema_of};
 ghost use Rattle.graphql_document_building.specs.Selections.{FragmentSpreadSays, SelectionSays, SelectionsSay, SetSays};
 ghost use Rattle.graphql_document_building.specs.Trees.{selections_in};
 ghost use Rattle.graphql_documents.specs.declared.documents.executables.Selection.TheVariants as kind;
@@ -11,7 +12,7 @@ ghost use Rattle.graphql_trees.specs.declared.executable.Selection.TheVariants a
 
 use crate::field_definitions::FieldDefinitions;
 use graphql_documents::documents::{
-    Field, FragmentSpread, InlineFragment, Selection, SelectionSet,
+    ExtendedType, Field, FragmentSpread, InlineFragment, Selection, SelectionSet,
 };
 use graphql_leaf_building::{build_arguments, build_directives};
 use graphql_nodes::{Name, NamedType, Node, ValidationError};
@@ -36,9 +37,10 @@ pub(crate) fn build_selection_set(
     requires builds { SelectionsBuildIn (schema_of definitions.now) ty.now trees.now }
     ensures { IfOk result (SetSays (schema_of definitions.now) ty.now trees.now) }
 {
-    let mut selections = Vec::new(alloc);
+    let mut selections = Vec::with_capacity(alloc, trees.len())?;
+    let own_type = definitions.of_type(ty);
     for tree in trees {
-        let selection = build_selection(alloc, definitions, ty, tree)?;
+        let selection = build_selection(alloc, definitions, ty, own_type, tree)?;
         selections.push(selection)?;
     }
     let ty = ty.clone_in(alloc)?;
@@ -46,19 +48,21 @@ pub(crate) fn build_selection_set(
 }
 
 #[cycle(selections)]
-fn build_selection(
+fn build_selection<'a>(
     alloc: Global,
-    definitions: &FieldDefinitions<'_>,
+    definitions: &FieldDefinitions<'a>,
     parent: &NamedType,
+    parent_type: Option<&'a ExtendedType>,
     tree: &SelectionTree,
 ) -> Result<Selection, ValidationError>
     requires proper { IsProper definitions.now }
+    requires parent_type { IsTypeIn (schema_of definitions.now) parent.now (option_copied parent_type) }
     requires builds { SelectionsBuildIn (schema_of definitions.now) parent.now (tree.now ∷ []) }
     ensures { IfOk result (SelectionSays (schema_of definitions.now) parent.now tree.now) }
 {
     match tree {
         SelectionTree::Field(field) => {
-            let field = build_field(alloc, definitions, parent, field)?;
+            let field = build_field(alloc, definitions, parent, parent_type, field)?;
             Ok(Selection::Field(field))
         }
         SelectionTree::FragmentSpread(spread) => {
@@ -73,17 +77,21 @@ fn build_selection(
 }
 
 #[cycle(selections)]
-fn build_field(
+fn build_field<'a>(
     alloc: Global,
-    definitions: &FieldDefinitions<'_>,
+    definitions: &FieldDefinitions<'a>,
     parent: &NamedType,
+    parent_type: Option<&'a ExtendedType>,
     tree: &FieldTree,
 ) -> Result<Node<Field>, ValidationError>
     requires proper { IsProper definitions.now }
+    requires parent_type { IsTypeIn (schema_of definitions.now) parent.now (option_copied parent_type) }
     requires builds { SelectionsBuildIn (schema_of definitions.now) parent.now (tree_kind.Field tree.now ∷ []) }
     ensures { IfOk result (λ field. SelectionSays (schema_of definitions.now) parent.now (tree_kind.Field tree.now) (kind.Field field)) }
 {
-    let definition = definitions.of_field(parent, &tree.name).clone()?;
+    let definition = definitions
+        .of_field(parent, parent_type, &tree.name)
+        .clone()?;
     let alias = copy_of_alias(alloc, &tree.alias)?;
     let name = tree.name.clone_in(alloc)?;
     let arguments = build_arguments(alloc, tree.arguments.as_slice())?;

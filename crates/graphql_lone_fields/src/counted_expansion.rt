@@ -20,7 +20,7 @@ use std::alloc::Global;
 use std::collections::VecDeque;
 use std::sync::ledger::Ledger;
 
-/// Lists the fields of these sets, and those of the fragments in them, as `expand_selections` does. Each visit of a selection, be
+/// Lists the fields of a set, and those of the fragments in it, as `expand_selections` does. Each visit of a selection, be
 /// it a field, a spread or an inline fragment, is work; the answer is `None` if more is needed than is left. The only error is a
 /// failed allocation.
 ///
@@ -28,30 +28,31 @@ use std::sync::ledger::Ledger;
 pub(crate) fn expand_within<'doc, L: Ledger>(
     alloc: Global,
     fragments: &'doc IndexMap<Name, Node<Fragment>, HashSeed>,
-    sets: &[&'doc SelectionSet],
+    set: &'doc SelectionSet,
     left: &mut usize,
     steps: &mut Steps<L>,
 ) -> Result<Option<Vec<FieldSelection<'doc>>>, ValidationError>
     ensures fields { IfOk result (λ found. IfSome found (λ fields.
-        Expansion (fragments_in fragments.now) (map (λ set. set.now) sets.now) (listed fields.items))) }
+        Expansion (fragments_in fragments.now) (set.now ∷ []) (listed fields.items))) }
     // For each field that is listed there are nineteen steps to spare.
     ensures spare { IfOk result (λ found. IfSome found (λ fields.
-        Paid left.old (steps.old + length sets.now) left.new (steps.new + 19 * length fields.items) 0)) }
-    ensures cost { Paid left.old steps.old left.new steps.new (length sets.now) }
+        Paid left.old (steps.old + 1) left.new (steps.new + 19 * length fields.items) 0)) }
+    ensures cost { Paid left.old steps.old left.new steps.new 1 }
 {
-    let queue: Vec<&SelectionSet> = sets.iter().copied().collect(alloc)?;
     let mut expansion = CountedExpansion {
         fragments,
         fields: Vec::new(alloc),
         visited: IndexSet::with_hasher(alloc, *fragments.hasher()),
-        queue: VecDeque::from(queue),
+        queue: VecDeque::new(alloc),
     };
-    while let Some(set) = expansion.queue.pop_front() {
+    let mut next = Some(set);
+    while let Some(set) = next {
         steps.take(1);
         if !spend(left, set.selections.len()) {
             return Ok(None);
         }
         expansion.expand_set(set, steps)?;
+        next = expansion.queue.pop_front();
     }
     Ok(Some(expansion.fields))
 }

@@ -113,8 +113,7 @@ impl<'doc> LoneFieldSearch<'doc> {
             return Ok(false);
         }
         let fragments = &self.document.fragments;
-        let Some(fields) = expand_within(self.alloc, fragments, &[set], &mut self.left, steps)?
-        else {
+        let Some(fields) = expand_within(self.alloc, fragments, set, &mut self.left, steps)? else {
             return Ok(false);
         };
         if !have_different_keys(self.alloc, self.document.hash_seed(), &fields, steps)? {

@@ -1,4 +1,5 @@
 pub mod ConflictLemmas
+pub mod ExpansionCountLemmas
 pub mod ExpansionSizeLemmas
 pub mod ExpansionStepLemmas
 pub mod GroupLemmas
@@ -9,3 +10,4 @@ pub mod NumberedFieldLemmas
 pub mod NumberedGroupLemmas
 pub mod PassLemmas
 pub mod PassStepLemmas
+pub mod WeightLemmas

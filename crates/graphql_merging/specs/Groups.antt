@@ -28,6 +28,10 @@ NamedFields = List (NameText × List merging.FieldSelection)
 abbrev pub named_fields : List (Bor NameText × Vec FieldSelection Global) → NamedFields
 named_fields entries = map (λ entry. (entry.0.now, listed entry.1.items)) entries
 
+-- the fields under each name
+abbrev pub fields_under : NamedFields → List (List merging.FieldSelection)
+fields_under known = map (λ entry. entry.1) known
+
 -- with the field behind those under the name
 abbrev pub with_field : NamedFields → NameText → merging.FieldSelection → NamedFields
 with_field known name x = insert_entry same_name known name (unwrap_or (lookup (same_name name) known) [] ++ x ∷ [])

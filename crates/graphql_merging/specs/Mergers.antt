@@ -1,12 +1,12 @@
 -- What contracts see of values that merge operations.
-use Rattle.std.specs.Prelude.{Bool, IsFalse, map}
+use Rattle.std.specs.Prelude.{ℕ, Bool, IsFalse, Option, map}
 use Rattle.graphql_contents.specs.Documents.{document_in}
 use Rattle.graphql_documents.specs.Selections.{fragments_of}
 use Rattle.graphql_documents.specs.declared.documents.executables.ExecutableDocument.{ExecutableDocument}
 use Rattle.graphql_documents.specs.declared.documents.schemas.Schema.{Schema}
 use Rattle.graphql_merging.specs.MergedOperations.{HasMerged, Merging}
 use Rattle.graphql_merging.specs.Stages.{examined_lists}
-use Rattle.graphql_merging.specs.Works.{IsUnbounded}
+use Rattle.graphql_merging.specs.Works.{IsUnbounded, Pays}
 use Rattle.graphql_merging.specs.declared.bounded.BoundedMerging.{BoundedMerging}
 use Rattle.graphql_merging.specs.declared.merging.FieldsInSetCanMerge.{FieldsInSetCanMerge}
 
@@ -51,3 +51,11 @@ IsSoundWithin m = IsFalse m.interrupted → IsSound m.merging
 -- the work has no bound
 abbrev pub HasNoBound : BoundedMerging → Type 0
 HasNoBound m = IsUnbounded m.work
+
+-- how much work is left, if there is a bound
+abbrev pub left_within : BoundedMerging → Option ℕ
+left_within m = m.work.left
+
+-- from one moment to another, at most 26 steps were taken for each unit of work that was counted, and these beside
+abbrev pub PaysWithin : (m m_then : BoundedMerging) (steps steps_then beside : ℕ) → Type 0
+PaysWithin m m_then steps steps_then beside = Pays m.work m_then.work steps steps_then beside

@@ -10,7 +10,10 @@ use graphql_diagnostics::{Details, DiagnosticList};
 use graphql_documents::documents::{ExecutableDocument, Operation, Schema};
 use graphql_guards::LimitCounter;
 use graphql_nodes::{Node, RecursionLimitError, ValidationError};
+use graphql_steps::Steps;
 use std::alloc::Global;
+use std::marker::Brand;
+use std::sync::ledger::{Blank, Ledger};
 
 /// How deep fields may be merged.
 const FIELD_DEPTH_LIMIT: usize = 128;
@@ -35,7 +38,7 @@ pub struct FieldsInSetCanMerge<'s, 'doc> {
 }
 
 impl<'s, 'doc> FieldsInSetCanMerge<'s, 'doc> {
-    ghost use Rattle.std.specs.Prelude.{◌≡◌, ◌⊎◌, ◌++◌, ◌∷◌, [], IfErr, IfOk, IsErr, IsErrOf, IsFalse, IsTrue, OnErr, OnOk, is_err, sum_by};
+    ghost use Rattle.std.specs.Prelude.{◌≡◌, ◌<◌, ◌⊎◌, ◌++◌, ◌∷◌, [], IfErr, IfOk, IsErr, IsErrOf, IsFalse, IsTrue, OnErr, OnOk, is_err, sum_by};
     ghost use Rattle.graphql_diagnostics.specs.Diagnostics.{IsLimitEntry, entries};
     ghost use Rattle.graphql_specification.specs.Merging.{shape_pass, MergingReport};
     ghost use Rattle.graphql_specification.specs.MergedSets.{MergingLimit, comparisons_of};
@@ -44,7 +47,7 @@ impl<'s, 'doc> FieldsInSetCanMerge<'s, 'doc> {
     ghost use Rattle.graphql_merging.specs.MergedOperations.{AreLimits, ExaminesInBoth, HasMerged, MergesOneMore};
     ghost use Rattle.graphql_merging.specs.Mergers.{IsSound, document_of, has_refused, merging_of, schema_of};
     ghost use Rattle.graphql_merging.specs.Passes.{counted};
-    ghost use Rattle.graphql_merging.specs.Works.{IsUnbounded};
+    ghost use Rattle.graphql_merging.specs.Works.{IsUnbounded, Pays};
     ghost use Rattle.graphql_merging.specs.declared.work.Interruption.TheVariants.{OutOfMemory, OutOfWork};
 
     /// No operation was merged yet. It takes no memory.
@@ -106,19 +109,48 @@ impl<'s, 'doc> FieldsInSetCanMerge<'s, 'doc> {
             MergingLimit (schema_of self.old) (fragments_of (document_of self.old)) (merging_of self.old).operations operation.now e.details e.location)
             (entries diagnostics.old) (entries diagnostics.new) }
     {
+        self.validate_operation_uncounted::<Brand>(operation, diagnostics, Blank::new(1))
+    }
+
+    /// Validates an operation with a counter of steps that nobody reads.
+    fn validate_operation_uncounted<L: Ledger>(
+        &mut self,
+        operation: &'doc Node<Operation>,
+        diagnostics: &mut DiagnosticList,
+        blank: Blank,
+    ) -> Result<(), ValidationError>
+        requires name { blank.name ≡ L.name }
+        requires parts { blank.parts ≡ L.parts }
+        requires some { 0 < blank.parts }
+        ensures schema { schema_of self.new ≡ schema_of self.old }
+        ensures document { document_of self.new ≡ document_of self.old }
+        ensures refused { has_refused self.new ≡ is_err result }
+        ensures reports { KeepsReports
+            (λ e. MergingReport (schema_of self.old) (fragments_of (document_of self.old)) operation.now.value.value.selection_set e.details e.location ⊎ IsLimitEntry e)
+            (entries diagnostics.old) (entries diagnostics.new) }
+        ensures stays { IsTrue (has_refused self.old) → IsErr result × (entries diagnostics.new ≡ entries diagnostics.old) }
+        ensures merges { OnOk result (MergesOneMore (schema_of self.old) operation.now (merging_of self.old) (merging_of self.new) (entries diagnostics.old) (entries diagnostics.new)) }
+        ensures sound { IsSound self.old → IsSound self.new }
+        ensures truth { IsSound self.old → KeepsReports
+            (λ e. MergingReport (schema_of self.old) (fragments_of (document_of self.old)) operation.now.value.value.selection_set e.details e.location ⊎
+            MergingLimit (schema_of self.old) (fragments_of (document_of self.old)) (merging_of self.old).operations operation.now e.details e.location)
+            (entries diagnostics.old) (entries diagnostics.new) }
+    {
+        let mut steps = Steps::<L>::new(blank);
         let mut work = Work::new(None);
-        self.validate_operation_within(operation, diagnostics, &mut work)?;
+        self.validate_operation_within(operation, diagnostics, &mut work, &mut steps)?;
         Ok(())
     }
 
     /// Validates an operation as `validate_operation` does, and answers whether it was decided: it was, unless more was gone
     /// through or compared than the work allows. If it was not decided, each report is true of two chains of fields of the
     /// operation, and the lists that were examined say nothing of further operations.
-    pub(crate) fn validate_operation_within(
+    pub(crate) fn validate_operation_within<L: Ledger>(
         &mut self,
         operation: &'doc Node<Operation>,
         diagnostics: &mut DiagnosticList,
         work: &mut Work,
+        steps: &mut Steps<L>,
     ) -> Result<bool, ValidationError>
         ensures schema { schema_of self.new ≡ schema_of self.old }
         ensures document { document_of self.new ≡ document_of self.old }
@@ -138,11 +170,12 @@ impl<'s, 'doc> FieldsInSetCanMerge<'s, 'doc> {
             (λ e. MergingReport (schema_of self.old) (fragments_of (document_of self.old)) operation.now.value.value.selection_set e.details e.location ⊎
             MergingLimit (schema_of self.old) (fragments_of (document_of self.old)) (merging_of self.old).operations operation.now e.details e.location)
             (entries diagnostics.old) (entries diagnostics.new) }
+        ensures cost { Pays work.old work.new steps.old steps.new 2 }
     {
         if self.refused {
             return Err(ValidationError::OutOfMemory);
         }
-        match self.merge_operation(operation, diagnostics, work) {
+        match self.merge_operation(operation, diagnostics, work, steps) {
             Ok(()) => Ok(true),
             Err(Interruption::OutOfWork) => Ok(false),
             Err(Interruption::OutOfMemory) => {
@@ -161,11 +194,12 @@ impl<'s, 'doc> FieldsInSetCanMerge<'s, 'doc> {
     }
 
     /// Merges the fields of an operation, pass by pass.
-    fn merge_operation(
+    fn merge_operation<L: Ledger>(
         &mut self,
         operation: &'doc Node<Operation>,
         diagnostics: &mut DiagnosticList,
         work: &mut Work,
+        steps: &mut Steps<L>,
     ) -> Result<(), Interruption>
         ensures schema { schema_of self.new ≡ schema_of self.old }
         ensures document { document_of self.new ≡ document_of self.old }
@@ -184,10 +218,11 @@ impl<'s, 'doc> FieldsInSetCanMerge<'s, 'doc> {
             (λ e. MergingReport (schema_of self.old) (fragments_of (document_of self.old)) operation.now.value.value.selection_set e.details e.location ⊎
             MergingLimit (schema_of self.old) (fragments_of (document_of self.old)) (merging_of self.old).operations operation.now e.details e.location)
             (entries diagnostics.old) (entries diagnostics.new) }
+        ensures cost { Pays work.old work.new steps.old steps.new 2 }
     {
         self.operations.push(operation)?;
         let reports = diagnostics.len();
-        let deep = self.examine_operation(operation, diagnostics, work)?;
+        let deep = self.examine_operation(operation, diagnostics, work, steps)?;
         self.conflicting |= diagnostics.len() > reports;
         self.too_deep |= deep;
         self.report_limit(operation, diagnostics)?;
@@ -214,11 +249,12 @@ impl<'s, 'doc> FieldsInSetCanMerge<'s, 'doc> {
 
     /// Examines the fields of an operation in both passes, and answers whether they nest too deep.
     #[tactic(auto, using(crate::proofs::NumberedExaminedLemmas::grown_examined))]
-    fn examine_operation(
+    fn examine_operation<L: Ledger>(
         &mut self,
         operation: &'doc Node<Operation>,
         diagnostics: &mut DiagnosticList,
         work: &mut Work,
+        steps: &mut Steps<L>,
     ) -> Result<bool, Interruption>
         ensures schema { schema_of self.new ≡ schema_of self.old }
         ensures document { document_of self.new ≡ document_of self.old }
@@ -232,6 +268,7 @@ impl<'s, 'doc> FieldsInSetCanMerge<'s, 'doc> {
             (merging_of self.old).comparisons (merging_of self.new).comparisons (entries diagnostics.old) (entries diagnostics.new) deep) }
         ensures truth { KeepsReports (λ e. MergingReport (schema_of self.old) (fragments_of (document_of self.old)) operation.now.value.value.selection_set e.details e.location)
             (entries diagnostics.old) (entries diagnostics.new) }
+        ensures cost { Pays work.old work.new steps.old steps.new 2 }
     {
         let set = &operation.value.selection_set;
         let contents = self
@@ -247,13 +284,27 @@ impl<'s, 'doc> FieldsInSetCanMerge<'s, 'doc> {
             numbered: &self.numbered,
             pass: Pass::Shapes,
         };
-        shapes.examine_set(diagnostics, &mut self.shapes, &mut depth, work, set)?;
+        shapes.examine_set(
+            diagnostics,
+            &mut self.shapes,
+            &mut depth,
+            work,
+            steps,
+            set,
+        )?;
         let fields = MergingPass {
             schema: self.schema,
             numbered: &self.numbered,
             pass: Pass::NamesAndArguments,
         };
-        fields.examine_set(diagnostics, &mut self.fields, &mut depth, work, set)?;
+        fields.examine_set(
+            diagnostics,
+            &mut self.fields,
+            &mut depth,
+            work,
+            steps,
+            set,
+        )?;
         Ok(depth.high() > FIELD_DEPTH_LIMIT)
     }
 }

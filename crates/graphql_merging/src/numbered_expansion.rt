@@ -1,6 +1,6 @@
 //! The fields of sets, with those of the fragments in them, and with the numbers of the contents of each.
 
-ghost use Rattle.std.specs.Prelude.{◌≡◌, ◌∷◌, [], All, IfErr, IfOk, OnOk, length, map};
+ghost use Rattle.std.specs.Prelude.{◌≡◌, ◌≤◌, ◌+◌, ◌*◌, ◌∷◌, [], All, IfErr, IfOk, OnOk, length, map};
 ghost use Rattle.graphql_contents.specs.Contents.{HasNumber};
 ghost use Rattle.graphql_contents.specs.Documents.{HasFragments, IsNumberedSet, contents_in, document_in};
 ghost use Rattle.graphql_specification.specs.MergedSets.{Expansion};
@@ -10,7 +10,7 @@ ghost use Rattle.graphql_documents.specs.declared.documents.executables.Selectio
 ghost use Rattle.graphql_merging.specs.ExpansionSteps.{Expands};
 ghost use Rattle.graphql_merging.specs.NumberedFields.{AreNumberedIn, listed};
 ghost use Rattle.graphql_merging.specs.NumberedExpansions.{HasNumbers, expanding};
-ghost use Rattle.graphql_merging.specs.Works.{IsUnbounded};
+ghost use Rattle.graphql_merging.specs.Works.{IsUnbounded, Pays};
 ghost use Rattle.graphql_merging.specs.declared.work.Interruption.TheVariants.{OutOfMemory};
 
 use super::numbered_fields::NumberedField;
@@ -19,16 +19,19 @@ use graphql_contents::{NumberedDocument, NumberedSet};
 use graphql_documents::documents::{FragmentSpread, Selection};
 use graphql_hash_seeds::HashSeed;
 use graphql_nodes::{Name, NamedType, Node, ValidationError};
+use graphql_steps::Steps;
 use indexmap::IndexSet;
 use std::alloc::Global;
 use std::collections::VecDeque;
+use std::sync::ledger::Ledger;
 
 /// Lists the fields of these sets as `expand_selections` does, each with the number of its contents. Each selection of a set is
 /// counted before the set is gone through. The call is interrupted if there are more of them than the work allows.
-pub(crate) fn expand_sets<'n, 'doc>(
+pub(crate) fn expand_sets<'n, 'doc, L: Ledger>(
     alloc: Global,
     numbered: &'n NumberedDocument<'doc>,
     work: &mut Work,
+    steps: &mut Steps<L>,
     sets: Vec<NumberedSet<'n, 'doc>>,
 ) -> Result<Vec<NumberedField<'doc>>, Interruption>
     requires fragments { HasFragments numbered.now }
@@ -36,6 +39,10 @@ pub(crate) fn expand_sets<'n, 'doc>(
     ensures fields { IfOk result (λ fields. Expansion (fragments_of (document_in numbered.now)) (map (λ set. set.set.now) sets.entry.items) (listed fields.items)) }
     ensures numbers { IfOk result (λ fields. AreNumberedIn (contents_in numbered.now) fields.items) }
     ensures unbounded { IsUnbounded work.old → IsUnbounded work.new × IfErr result (λ e. e ≡ OutOfMemory) }
+    // For each field that is listed there are 25 steps to spare.
+    ensures spare { IfOk result (λ fields.
+        Pays work.old work.new (steps.old + length sets.entry.items) (steps.new + 25 * length fields.items) 0) }
+    ensures cost { Pays work.old work.new steps.old steps.new (length sets.entry.items) }
 {
     let mut expansion = NumberedExpansion {
         numbered,
@@ -44,8 +51,9 @@ pub(crate) fn expand_sets<'n, 'doc>(
         queue: VecDeque::from(sets),
     };
     while let Some(set) = expansion.queue.pop_front() {
+        steps.take(1);
         work.count(set.set.selections.len())?;
-        expansion.expand_set(set)?;
+        expansion.expand_set(set, steps)?;
     }
     Ok(expansion.fields)
 }
@@ -62,15 +70,21 @@ struct NumberedExpansion<'n, 'doc> {
 
 impl<'n, 'doc> NumberedExpansion<'n, 'doc> {
     /// Lists the fields of a set, and puts the sets of the fragments in it behind the others.
-    fn expand_set(&mut self, set: NumberedSet<'n, 'doc>) -> Result<(), ValidationError>
+    fn expand_set<L: Ledger>(
+        &mut self,
+        set: NumberedSet<'n, 'doc>,
+        steps: &mut Steps<L>,
+    ) -> Result<(), ValidationError>
         requires fragments { HasFragments self.old.numbered.now }
         requires numbers { HasNumbers (contents_in self.old.numbered.now) self.old }
         requires set { IsNumberedSet (contents_in self.old.numbered.now) set }
         ensures document { self.new.numbered ≡ self.old.numbered }
         ensures expands { OnOk result (Expands (expanding self.old) (expanding self.new) set.entry.set.now.ty (selections_of set.entry.set.now)) }
         ensures numbers { OnOk result (HasNumbers (contents_in self.old.numbered.now) self.new) }
+        ensures steps { steps.new ≤ steps.old + length (selections_of set.entry.set.now) }
     {
         for (index, selection) in set.set.selections.iter().enumerate() {
+            steps.take(1);
             self.expand_selection(&set.set.ty, selection, set.contents[index])?;
         }
         Ok(())

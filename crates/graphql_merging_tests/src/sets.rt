@@ -1,17 +1,25 @@
-ghost use Rattle.std.specs.Prelude.{◌<◌, All, IfOk};
+ghost use Rattle.std.specs.Prelude.{◌≡◌, ◌<◌, All, IfOk};
 ghost use Rattle.graphql_number_sets.specs.NumberSets.{AreExact, numbers_of};
 
 use graphql_nodes::ValidationError;
 use graphql_number_sets::bit_sets::BitSet;
 use graphql_number_sets::distinct_numbers::DistinctNumbers;
 use graphql_number_sets::pair_sets::PairSet;
+use graphql_steps::Steps;
 use std::alloc::Global;
+use std::marker::Brand;
 use std::process::Abort;
+use std::sync::ledger::{Blank, Ledger};
 
-fn set_of(rt: &impl Abort, alloc: Global, numbers: &[usize]) -> BitSet {
+fn set_of<L: Ledger>(
+    rt: &impl Abort,
+    alloc: Global,
+    numbers: &[usize],
+    steps: &mut Steps<L>,
+) -> BitSet {
     let mut set = BitSet::new(alloc);
     for number in numbers {
-        set.insert(*number).expect(rt, "memory for a number");
+        set.insert(*number, steps).expect(rt, "memory for a number");
     }
     set
 }
@@ -30,10 +38,19 @@ const NUMBERS: &[(usize, bool)] = &[
 
 #[test]
 fn a_set_gets_the_numbers_of_another(rt: HostRuntime) {
-    let alloc = rt.alloc();
-    let mut set = set_of(&rt, alloc, &[1, 64]);
-    let other = set_of(&rt, alloc, &[2, 200]);
-    set.add_all(&other).expect(&rt, "memory for numbers");
+    add_set::<Brand>(&rt, rt.alloc(), Blank::new(1));
+}
+
+fn add_set<L: Ledger>(rt: &impl Abort, alloc: Global, blank: Blank)
+    requires name { blank.name ≡ L.name }
+    requires parts { blank.parts ≡ L.parts }
+    requires some { 0 < blank.parts }
+{
+    let mut steps = Steps::<L>::new(blank);
+    let mut set = set_of(rt, alloc, &[1, 64], &mut steps);
+    let other = set_of(rt, alloc, &[2, 200], &mut steps);
+    set.add_all(&other, &mut steps)
+        .expect(rt, "memory for numbers");
     for (number, is_there) in NUMBERS {
         assert_eq!(rt; set.contains(*number), *is_there, "{number}");
     }
@@ -43,28 +60,44 @@ fn a_set_gets_the_numbers_of_another(rt: HostRuntime) {
 /// Each number of two is made a pair with each: no end is left.
 #[test]
 fn each_number_becomes_a_pair_with_each(rt: HostRuntime) {
-    let alloc = rt.alloc();
+    add_pairs::<Brand>(&rt, rt.alloc(), Blank::new(1));
+}
+
+fn add_pairs<L: Ledger>(rt: &impl Abort, alloc: Global, blank: Blank)
+    requires name { blank.name ≡ L.name }
+    requires parts { blank.parts ≡ L.parts }
+    requires some { 0 < blank.parts }
+{
+    let mut steps = Steps::<L>::new(blank);
     let mut numbers = DistinctNumbers::new(alloc);
-    numbers.add(0).expect(&rt, "memory for a number");
-    numbers.add(2).expect(&rt, "memory for a number");
-    let mut pairs = PairSet::new(alloc, 3).expect(&rt, "memory for pairs");
-    let before = pairs.ends(alloc, &numbers).expect(&rt, "memory for ends");
+    numbers.add(0, &mut steps).expect(rt, "memory for a number");
+    numbers.add(2, &mut steps).expect(rt, "memory for a number");
+    let mut pairs = PairSet::new(alloc, 3, &mut steps).expect(rt, "memory for pairs");
+    let before = pairs
+        .ends(alloc, &numbers, &mut steps)
+        .expect(rt, "memory for ends");
     assert_eq!(rt; before.as_slice(), [0, 2].as_slice());
     pairs
-        .add_all(&numbers, &numbers)
-        .expect(&rt, "memory for pairs");
-    let left = pairs.ends(alloc, &numbers).expect(&rt, "memory for ends");
+        .add_all(&numbers, &numbers, &mut steps)
+        .expect(rt, "memory for pairs");
+    let left = pairs
+        .ends(alloc, &numbers, &mut steps)
+        .expect(rt, "memory for ends");
     assert!(rt; left.as_slice().is_empty());
 }
 
 /// The numbers below a bound. The only error is a failed allocation.
-fn numbers_below(alloc: Global, bound: usize) -> Result<DistinctNumbers, ValidationError>
+fn numbers_below<L: Ledger>(
+    alloc: Global,
+    bound: usize,
+    steps: &mut Steps<L>,
+) -> Result<DistinctNumbers, ValidationError>
     ensures exact { IfOk result AreExact }
     ensures within { IfOk result (λ numbers. All (λ number. number < bound) (numbers_of numbers)) }
 {
     let mut numbers = DistinctNumbers::new(alloc);
     for number in 0..bound {
-        numbers.add(number)?;
+        numbers.add(number, steps)?;
     }
     Ok(numbers)
 }
@@ -72,17 +105,35 @@ fn numbers_below(alloc: Global, bound: usize) -> Result<DistinctNumbers, Validat
 /// Numbers that came together are joined by one more: it is an end, since it is no pair with the others, and then none is.
 #[test]
 fn numbers_are_joined_by_one_more(rt: HostRuntime) {
-    let alloc = rt.alloc();
-    let mut pairs = PairSet::new(alloc, 101).expect(&rt, "memory for pairs");
-    let numbers = numbers_below(alloc, 100).expect(&rt, "memory for numbers");
-    let all = pairs.ends(alloc, &numbers).expect(&rt, "memory for ends");
+    join_one_more::<Brand>(&rt, rt.alloc(), Blank::new(1));
+}
+
+fn join_one_more<L: Ledger>(rt: &impl Abort, alloc: Global, blank: Blank)
+    requires name { blank.name ≡ L.name }
+    requires parts { blank.parts ≡ L.parts }
+    requires some { 0 < blank.parts }
+{
+    let mut steps = Steps::<L>::new(blank);
+    let mut pairs = PairSet::new(alloc, 101, &mut steps).expect(rt, "memory for pairs");
+    let numbers = numbers_below(alloc, 100, &mut steps).expect(rt, "memory for numbers");
+    let all = pairs
+        .ends(alloc, &numbers, &mut steps)
+        .expect(rt, "memory for ends");
     assert_eq!(rt; all.as_slice(), numbers.as_slice());
-    pairs.join(numbers, &all).expect(&rt, "memory for pairs");
-    let more = numbers_below(alloc, 101).expect(&rt, "memory for numbers");
-    let last = pairs.ends(alloc, &more).expect(&rt, "memory for ends");
+    pairs
+        .join(numbers, &all, &mut steps)
+        .expect(rt, "memory for pairs");
+    let more = numbers_below(alloc, 101, &mut steps).expect(rt, "memory for numbers");
+    let last = pairs
+        .ends(alloc, &more, &mut steps)
+        .expect(rt, "memory for ends");
     assert_eq!(rt; last.as_slice(), [100].as_slice());
-    pairs.join(more, &last).expect(&rt, "memory for pairs");
-    let more = numbers_below(alloc, 101).expect(&rt, "memory for numbers");
-    let none = pairs.ends(alloc, &more).expect(&rt, "memory for ends");
+    pairs
+        .join(more, &last, &mut steps)
+        .expect(rt, "memory for pairs");
+    let more = numbers_below(alloc, 101, &mut steps).expect(rt, "memory for numbers");
+    let none = pairs
+        .ends(alloc, &more, &mut steps)
+        .expect(rt, "memory for ends");
     assert!(rt; none.as_slice().is_empty());
 }

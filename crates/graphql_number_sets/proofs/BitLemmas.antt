@@ -72,6 +72,15 @@ nothing_lacks words others none fits n has = elim (cases_lt (n / 64) (length oth
       let none : bit_at (word_at others (n / 64)) (n % 64) ≡ 0 = ap (λ w. bit_at w (n % 64)) e ∙ bit_at-zero (n % 64) in
       omega (arith, none, bit_of (word_at others (n / 64)) (n % 64) has)
 
+-- a bit that is there is in one of the words
+pub bit_within : (words : List ℕ) (n : ℕ) → has_bit words n ≡ true → n / 64 < length words
+bit_within words n has = elim (cases_lt (n / 64) (length words)) [
+  | inl within ↦ within
+  | inr past ↦
+      (let none : bit_at (word_at words (n / 64)) (n % 64) ≡ 0 = ap (λ w. bit_at w (n % 64)) (beyond words (n / 64) past) ∙ bit_at-zero (n % 64) in
+      absurd (omega (arith, none, bit_of (word_at words (n / 64)) (n % 64) has)))
+]
+
 -- a bit was set
 pub inserted : (old made : List ℕ) (number : ℕ) → ((place : ℕ) → word_at made place ≡ word_at old place) → number / 64 < length made → (other : ℕ) →
     (has_bit (set made (number / 64) (bit_or (word_at made (number / 64)) (1 * 2 ^ (number % 64) % 2 ^ 64))) other ≡ true) ↔ ((has_bit old other ≡ true) ⊎ (other ≡ number))

@@ -1,11 +1,12 @@
 -- Lists of different numbers, and sets of pairs.
-use Rattle.std.proofs.Common.{◌≡◌, ℕ, zero, suc, ◌<◌, Bool, true, false, List, [], ◌∷◌, ◌++◌, get_or, set, take, Some, arith, length, refl, sym, ap, ◌∙◌, subst, All, Contains, inl, inr}
+use Rattle.std.proofs.Common.{◌≡◌, ℕ, zero, suc, ◌/◌, ◌<◌, Bool, true, false, List, [], ◌∷◌, ◌++◌, get_or, set, take, Some, arith, length, refl, sym, ap, ◌∙◌, subst, All, Contains, inl, inr}
 use Rattle.std.specs.Prelude.{◌≢◌, ◌↔◌, ◌⊎◌, Err, IfOk, None, Ok, OnErr, OnOk, Result, slice_get}
 use Rattle.std.proofs.lemmas.Bool.{cases_eq}
 use Rattle.std.proofs.lemmas.List.{take-append-le, take_all}
 use Rattle.std.proofs.lemmas.List.Elements.{All-contains, All-contains_itself, All-from_get_or, All-push, All-take, All-weaker, Contains-append_cases, Contains-append_left, Contains-append_right}
 use Rattle.std.proofs.lemmas.Option.{get_or_from_slice_get, slice_get_read, slice_get_within}
-use Rattle.graphql_number_sets.specs.NumberSets.{AreEnds, AreExact, AreKnown, HasSomeJoined, HasSomeMore, HasSomeOf, HaveEnd, IsAdded, IsClique, IsPlaced, KeepsCliques, LacksOne, has, has_in, has_pair, is_end, is_paired, numbers_of, was_paired}
+use Rattle.graphql_number_sets.specs.NumberSets.{AreEnds, AreExact, AreKnown, HasSomeJoined, HasSomeMore, HasSomeOf, HaveEnd, IsAdded, IsClique, IsPlaced, KeepsCliques, LacksOne, has, has_in, has_pair, is_end, is_paired, numbers_of, was_paired, words_of}
+use Rattle.graphql_number_sets.proofs.BitLemmas.{bit_within}
 use Rattle.graphql_number_sets.specs.declared.bit_sets.BitSet.{BitSet}
 use Rattle.graphql_number_sets.specs.declared.distinct_numbers.DistinctNumbers.{DistinctNumbers}
 use Rattle.graphql_number_sets.specs.declared.pair_sets.PairSet.{PairSet}
@@ -443,6 +444,13 @@ those_more numbers set old new number add of is before n in' = elim (after_addin
   | inl was ↦ before n was
   | inr here ↦ (subst (Contains numbers) (sym here) of, ap (has set) here ∙ is)
 ]
+
+-- the set of a list's numbers has a word for each of them
+pub have_words : (x : DistinctNumbers) → AreExact x → All (λ n. n / 64 < words_of x.members) (numbers_of x)
+have_words x exact =
+    All-from_get_or (λ n. n / 64 < words_of x.members) (numbers_of x) 0 (λ i below.
+    let n = get_or (numbers_of x) i 0 in
+    omega (arith, bit_within x.members.words.items n ((exact.members n).1 (i, below, in_place (numbers_of x) i n 0 below)), x.members.words.ok.0))
 
 -- numbers of a clique are known to be pairs
 pub known_in : (pairs : PairSet) (clique : BitSet) (numbers those : List ℕ) → IsClique pairs clique → ((n : ℕ) → Contains those n → Contains numbers n × (has clique n ≡ true)) → AreKnown pairs numbers those

@@ -1,5 +1,5 @@
 -- Sets of numbers as words of 64 bits, lists of different numbers, and sets of pairs of numbers.
-use Rattle.std.specs.Prelude.{◌≡◌, ◌↔◌, ◌⊎◌, ◌++◌, ◌∷◌, ◌/◌, ◌%◌, ◌==◌, ℕ, Bool, true, false, List, [], Option, None, Some, All, Contains, slice_get, slice_index}
+use Rattle.std.specs.Prelude.{◌≡◌, ◌↔◌, ◌⊎◌, ◌++◌, ◌∷◌, ◌+◌, ◌/◌, ◌%◌, ◌≤◌, ◌==◌, ℕ, Bool, true, false, List, [], Option, None, Some, All, Contains, slice_get, slice_index, vec_len}
 use Rattle.std.specs.Int.{bit_at}
 use Rattle.graphql_number_sets.specs.declared.bit_sets.BitSet.{BitSet}
 use Rattle.graphql_number_sets.specs.declared.distinct_numbers.DistinctNumbers.{DistinctNumbers}
@@ -16,6 +16,14 @@ has_bit words number = bit_at (word_at words (number / 64)) (number % 64) == 1
 -- the number is in the set
 abbrev pub has : BitSet → ℕ → Bool
 has set number = has_bit set.words.items number
+
+-- how many words the set takes
+abbrev pub words_of : BitSet → ℕ
+words_of set = vec_len set.words
+
+-- the set takes no word behind that of the bound
+abbrev pub FitsBelow : (bound : ℕ) → BitSet → Type 0
+FitsBelow bound set = words_of set ≤ bound / 64 + 1
 
 -- the numbers of the list
 abbrev pub numbers_of : DistinctNumbers → List ℕ

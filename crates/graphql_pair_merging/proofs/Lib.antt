@@ -10,6 +10,7 @@ pub mod ParentLemmas
 pub mod PlaceLemmas
 pub mod ReportedLemmas
 pub mod SettleLemmas
+pub mod SizeOfSetLemmas
+pub mod StepLemmas
 pub mod TurnLemmas
 pub mod WalkLemmas
-pub mod WeightLemmas

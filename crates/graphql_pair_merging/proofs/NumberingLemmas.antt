@@ -13,11 +13,12 @@ use Rattle.graphql_documents.specs.Selections.{Fragments, selections_of}
 use Rattle.graphql_documents.specs.declared.documents.executables.Fragment.{Fragment}
 use Rattle.graphql_documents.specs.declared.documents.executables.SelectionSet.{SelectionSet}
 use Rattle.graphql_merging.specs.ExpansionSteps.{fragments_in}
+use Rattle.graphql_pair_merging.specs.DocumentSizes.{size_of_set}
 use Rattle.graphql_pair_merging.specs.NumberedSets.{AreNumbered, Begins, Describes, sets_among, sets_at, sets_of, written_set}
 use Rattle.graphql_pair_merging.specs.declared.numbered_sets.NumberedSet.{NumberedSet}
 use Rattle.graphql_pair_merging.proofs.NumberLemmas.{describes_still, numbers_stay}
 use Rattle.graphql_pair_merging.proofs.PlaceLemmas.{mapped_at, one_at}
-use Rattle.graphql_pair_merging.proofs.WeightLemmas.{weighs_more, weight_of_set}
+use Rattle.graphql_pair_merging.proofs.SizeOfSetLemmas.{size_is}
 
 -- the set was described among these sets
 abbrev IsDescribed : Fragments → List SelectionSet → NumberedSet → Type 0
@@ -75,24 +76,28 @@ module _ {S : Type 0} (fragments : IndexMap NameText (Node Fragment) S) (numbers
         are_at = subst (λ l. map (slice_get l) numbers ≡ map (λ s. Some s) first) (sym same) d.are_at;
       }
 
--- once a set was described what is left weighs less
-rest_weighs : (sets more : List SelectionSet) (k : ℕ) (set : SelectionSet) → slice_get sets k ≡ Some set →
-    sum_by weight_of_set (drop (suc k) (sets ++ more)) + weight_of_set set ≡ sum_by weight_of_set (drop k sets) + sum_by weight_of_set more
-rest_weighs [] more k set at = absurd (let no : ⊥ = cc in no)
-rest_weighs (s ∷ sets) more zero set at =
-    let same : weight_of_set s ≡ weight_of_set set = ap weight_of_set (one_at (Some s) s set refl at) in
-    omega (arith, same, sum_by-append weight_of_set sets more, sum_by-cons weight_of_set s sets)
-rest_weighs (s ∷ sets) more (suc k) set at = rest_weighs sets more k set at
+-- once a set was described less is left, by the set itself and its selections
+rest_sizes : (sets more : List SelectionSet) (k : ℕ) (set : SelectionSet) → slice_get sets k ≡ Some set →
+    sum_by size_of_set (drop (suc k) (sets ++ more)) + size_of_set set ≡ sum_by size_of_set (drop k sets) + sum_by size_of_set more
+rest_sizes [] more k set at = absurd (let no : ⊥ = cc in no)
+rest_sizes (s ∷ sets) more zero set at =
+    let same : size_of_set s ≡ size_of_set set = ap size_of_set (one_at (Some s) s set refl at) in
+    omega (arith, same, sum_by-append size_of_set sets more, sum_by-cons size_of_set s sets)
+rest_sizes (s ∷ sets) more (suc k) set at = rest_sizes sets more k set at
 
 pub lighter : (sets new : List SelectionSet) (numbered : List NumberedSet) (x : NumberedSet) (set : SelectionSet) → slice_get sets (length numbered) ≡ Some set →
     new ≡ sets ++ filter_map written_set (selections_of set) →
-    sum_by weight_of_set (drop (length (numbered ++ x ∷ [])) new) < sum_by weight_of_set (drop (length numbered) sets)
+    sum_by size_of_set (drop (length (numbered ++ x ∷ [])) new) + suc (length (selections_of set)) ≡ sum_by size_of_set (drop (length numbered) sets)
 lighter sets new numbered x set at is =
     let added = filter_map written_set (selections_of set) in
     let count : length (numbered ++ x ∷ []) ≡ suc (length numbered) = length-append numbered (x ∷ []) ∙ add-one (length numbered) in
-    let same : sum_by weight_of_set (drop (length (numbered ++ x ∷ [])) new) ≡ sum_by weight_of_set (drop (suc (length numbered)) (sets ++ added)) =
-    ap (λ n. sum_by weight_of_set (drop n new)) count ∙ ap (λ l. sum_by weight_of_set (drop (suc (length numbered)) l)) is in
-    omega (arith, same, rest_weighs sets added (length numbered) set at, weighs_more set)
+    let same : sum_by size_of_set (drop (length (numbered ++ x ∷ [])) new) ≡ sum_by size_of_set (drop (suc (length numbered)) (sets ++ added)) =
+    ap (λ n. sum_by size_of_set (drop n new)) count ∙ ap (λ l. sum_by size_of_set (drop (suc (length numbered)) l)) is in
+    omega (arith, same, rest_sizes sets added (length numbered) set at, size_is set)
+
+-- the set at a number and its selections are among what is left
+pub left_at : (sets : List SelectionSet) (k : ℕ) (set : SelectionSet) → slice_get sets k ≡ Some set → suc (length (selections_of set)) ≤ sum_by size_of_set (drop k sets)
+left_at sets k set at = omega (arith, rest_sizes sets [] k set at, size_is set)
 
 -- the set that is read at a number is the one there
 pub read_at : (items : List (Bor SelectionSet)) (i n : ℕ) (s : Bor SelectionSet) → i ≡ n → i < length items → s ≡ get_or items i s → slice_get (sets_at items) n ≡ Some s.now

@@ -1,4 +1,5 @@
 pub mod Disagreements
+pub mod DocumentSizes
 pub mod FieldGroups
 pub mod JoinedSets
 pub mod Meetings

@@ -1,5 +1,5 @@
 -- The sets of a document by numbers.
-use Rattle.std.specs.Prelude.{◌≡◌, ◌++◌, ℕ, List, Option, None, Some, All, Contains, filter_map, map, slice_get}
+use Rattle.std.specs.Prelude.{◌≡◌, ◌++◌, ℕ, List, Option, None, Some, All, Contains, filter_map, length, map, slice_get, sum_by}
 use Rattle.std.specs.Borrow.{Bor}
 use Rattle.std.specs.Option.{option_map}
 use Rattle.indexmap.specs.IndexMap.{IndexMap, values}
@@ -87,3 +87,12 @@ pub record HaveArgumentNumbers (sets : List NumberedSet) : Type 0 where
 pub record HaveNumbers (fields : List NumberedField) : Type 0 where
   pub shapes : List Shape
   pub each : (x : NumberedField) → Contains fields x → HasArgumentNumber shapes x
+
+-- how many fields a set has, if there is one
+abbrev pub count_in : Option NumberedSet → ℕ
+count_in None = 0
+count_in (Some set) = length set.fields.items
+
+-- how many fields the sets with these numbers have
+abbrev pub count_fields : List NumberedSet → List ℕ → ℕ
+count_fields sets numbers = sum_by (λ n. count_in (slice_get sets n)) numbers

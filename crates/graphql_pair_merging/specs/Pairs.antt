@@ -74,6 +74,10 @@ abbrev pub DecidesAlone : Schema → Pass → FieldSelection → Type 0
 DecidesAlone schema shape_pass x = HasDefinition schema (type_of x)
 DecidesAlone schema field_pass x = ⊤
 
+-- the first of the fields, if there is one, decides so for all
+abbrev pub OneDecides : Schema → Pass → List NumberedField → Type 0
+OneDecides schema pass fields = (first : NumberedField) → slice_get fields 0 ≡ Some first → DecidesAlone schema pass (field_of first)
+
 -- the numbers of the sets of those fields that select something
 pub record AreSetsBelow (fields : List NumberedField) (below : List ℕ) : Type 0 where
   pub each : (n : ℕ) → Contains below n → (x : NumberedField) × Contains fields x × (selections_of (set_of (field_of x)) ≢ []) × (n ≡ x.set)

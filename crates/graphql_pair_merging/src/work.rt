@@ -1,7 +1,7 @@
 //! How much work merging by pairs has counted, and why a search by pairs is interrupted.
 
-ghost use Rattle.std.specs.Prelude.{◌≡◌, ◌≤◌, ◌+◌, ◌-◌, ◌^◌, ◌↔◌, IsErrOf, IsTrue, min};
-ghost use Rattle.graphql_pair_merging.specs.Works.{IsPassed, counted_of, most_of};
+ghost use Rattle.std.specs.Prelude.{◌≡◌, ◌≤◌, ◌+◌, ◌*◌, ◌/◌, ◌-◌, ◌^◌, ◌↔◌, IsErrOf, IsTrue, min};
+ghost use Rattle.graphql_pair_merging.specs.Works.{IsPassed, comparisons, counted_of, most_of};
 ghost use Rattle.graphql_pair_merging.specs.declared.work.Interruption.TheVariants.{OutOfWork};
 
 use graphql_nodes::ValidationError;
@@ -44,6 +44,7 @@ impl PairWork {
         ensures counted { counted_of self.new ≡ min (counted_of self.old + units) (2 ^ 64 - 1) }
         ensures most { most_of self.new ≡ most_of self.old }
         ensures within { IsTrue result ↔ counted_of self.new ≤ most_of self.new }
+        ensures grows { counted_of self.old ≤ counted_of self.new }
     {
         self.counted = self.counted.saturating_add(units);
         self.counted <= self.most
@@ -54,12 +55,43 @@ impl PairWork {
         ensures counted { counted_of self.new ≡ min (counted_of self.old + units) (2 ^ 64 - 1) }
         ensures most { most_of self.new ≡ most_of self.old }
         ensures passed { IsErrOf result OutOfWork → IsPassed self.new }
+        ensures grows { counted_of self.old ≤ counted_of self.new }
     {
         if self.count(units) {
             return Ok(());
         }
         Err(Interruption::OutOfWork)
     }
+}
+
+/// A row of bits counts one unit for so many sets of the document.
+const SETS_OF_A_ROW: usize = 1_024;
+
+/// The units that a field counts: to list, group or compare one takes as long as so many steps from set to set.
+const FIELD_UNITS: usize = 16;
+
+/// The units of a row of bits, in a document of so many sets.
+pub(crate) fn units_of_row(sets: usize) -> usize
+    ensures { result ≡ sets / 1024 + 1 }
+{
+    (sets / SETS_OF_A_ROW).saturating_add(1)
+}
+
+/// The units of so many fields, or pairs of types on which fields are.
+pub(crate) fn units_of(fields: usize) -> usize
+    ensures { result ≡ min (16 * fields) (2 ^ 64 - 1) }
+{
+    fields.saturating_mul(FIELD_UNITS)
+}
+
+/// How often one of so many fields is compared with one of them: if one of them decides for all, it alone is compared with each.
+pub(crate) fn comparisons_of(fields: usize, alone: bool) -> usize
+    ensures { result ≡ min (comparisons alone fields) (2 ^ 64 - 1) }
+{
+    if alone {
+        return fields;
+    }
+    fields.saturating_mul(fields)
 }
 
 /// Why a search by pairs does not come to its end.

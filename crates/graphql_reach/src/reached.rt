@@ -26,6 +26,9 @@ pub fn reached_fragments<'doc>(
         names: IndexSet::with_hasher(alloc, document.hash_seed()),
         pending: Vec::new(alloc),
     };
+    if document.fragments.is_empty() {
+        return Ok(reached.names);
+    }
     reached.add_in_set(document, set)?;
     while let Some(name) = reached.pending.pop() {
         reached.add_in_fragment(document, name)?;

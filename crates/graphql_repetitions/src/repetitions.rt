@@ -71,6 +71,9 @@ pub fn check_repetitions(
 ) -> Result<(), ValidationError>
     ensures { Checks result (AreDistinct (nows names.now)) (RepetitionReport (nows names.now) (repetition_rule what.entry)) reports.old reports.new }
 {
+    if names.len() < 2 {
+        return Ok(());
+    }
     let mut seen = FirstPlaces::with_hasher(reports.allocator(), reports.hash_seed());
     for name in names {
         check_name(reports, &mut seen, *name, what)?;

@@ -35,6 +35,9 @@ pub trait Production: Sized + Drop {
         ensures { Reads (λ found. (found.0, input found.1)) result (read_at constant depth (input cursor.entry)) };
 }
 
+/// Up to so many items are moved to new memory where there is no room for more: that takes less time than to extend theirs.
+const FEW: usize = 8;
+
 /// Makes room for one more where there is none: for one at first, and then for twice as many, since most
 /// lists are short, and more is read while they are held.
 pub fn make_room<T: Drop>(found: &mut Vec<T>) -> Result<(), AllocError>
@@ -43,7 +46,14 @@ pub fn make_room<T: Drop>(found: &mut Vec<T>) -> Result<(), AllocError>
     if found.len() < found.capacity() {
         return Ok(());
     }
-    found.reserve_exact(found.len().max(1))
+    let more = found.len().max(1);
+    if FEW < more {
+        return found.reserve_exact(more);
+    }
+    let mut larger = Vec::with_capacity(*found.allocator(), found.len() + more)?;
+    larger.append(found)?;
+    *found = larger;
+    Ok(())
 }
 
 /// What was found, in no more memory than it takes.

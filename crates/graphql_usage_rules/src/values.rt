@@ -191,6 +191,9 @@ pub(crate) fn check_arguments(
 ) -> Result<(), ValidationError>
     ensures { ChecksUsages result variables.now (UsedInArguments schema.now definitions.now arguments.now) reports.old reports.new }
 {
+    if arguments.is_empty() {
+        return Ok(());
+    }
     let definitions_by_name = ByName::new(
         reports.allocator(),
         hash_seed,

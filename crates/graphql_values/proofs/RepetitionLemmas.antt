@@ -1,5 +1,5 @@
 -- Which arguments repeat a name, and the diagnostics that say so.
-use Rattle.std.proofs.Common.{◌≡◌, ◌↔◌, ℕ, ◌+◌, ◌<◌, List, [], ◌∷◌, ◌++◌, Option, Some, None, length, get_or, take, drop, refl, sym, ap, ◌∙◌, subst}
+use Rattle.std.proofs.Common.{◌≡◌, ◌↔◌, ℕ, ◌+◌, ◌<◌, List, [], ◌∷◌, ◌++◌, Option, Some, None, length, get_or, take, drop, refl, sym, ap, ◌∙◌, subst, arith}
 use Rattle.std.specs.List.{AllZip, cons_option}
 use Rattle.std.specs.Option.{option_map}
 use Rattle.std.proofs.lemmas.List.{append-nil, append_assoc, drop_more, take-append-drop}
@@ -23,6 +23,12 @@ use Rattle.graphql_variables.proofs.FirstPlaceLemmas.{distinct_more}
 -- nothing was appended
 pub appends_none : {Entry : Type 0} (Are : List Entry → Type 0) (old : List Entry) → Are [] → Appends Are old old
 appends_none Are old are = record { added = []; appended = sym (append-nil old); are = are }
+
+-- fewer than two arguments repeat none
+pub few_repeat_none : (xs : List (Node Argument)) → length xs < 2 → AreRepetitionReports xs []
+few_repeat_none [] few = tt
+few_repeat_none (a ∷ []) few = tt
+few_repeat_none (a ∷ b ∷ xs) few = absurd (omega (arith, few))
 
 -- lists that agree place by place, with more lists that do behind them
 zip_then : {A B : Type 0} (R : A → B → Type 0) (xs xs' : List A) (ys ys' : List B) →

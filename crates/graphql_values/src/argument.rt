@@ -31,6 +31,9 @@ pub fn validate_arguments(
     ensures exact { OnOk result (Appends (AreRepetitionReports arguments.now) (entries diagnostics.old) (entries diagnostics.new)) }
     ensures checks { Checks result (HasDistinctNames arguments.now) (IsDiagnostic (RepetitionReport arguments.now)) diagnostics.old diagnostics.new }
 {
+    if arguments.len() < 2 {
+        return Ok(());
+    }
     let mut seen = FirstPlaces::with_hasher(diagnostics.allocator(), diagnostics.hash_seed());
     for argument in arguments {
         let first = first_place(&mut seen, &argument.value.name, argument.location)?;

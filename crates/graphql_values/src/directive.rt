@@ -99,6 +99,9 @@ pub fn check_each_directive(
         (IsDiagnostic (DirectivesReport (option_copied schema.entry) variables.now location directives.now))
         diagnostics.old diagnostics.new }
 {
+    if directives.is_empty() {
+        return Ok(());
+    }
     let directives = each_directive(diagnostics.allocator(), directives)?;
     check_directives(diagnostics, schema, &directives, location, variables)
 }

@@ -1,7 +1,7 @@
 -- The first of each name, and lists of things whose names are distinct.
 use Rattle.std.proofs.Common.{◌≡◌, ◌↔◌, ℕ, zero, suc, ◌+◌, ◌<◌, List, [], ◌∷◌, ◌++◌, length, get_or, map, Bool, true, false, cond, Option, Some, None, refl, sym, ◌∙◌, ap, subst, find, take, drop, Bor, Contains, AllPairs, arith}
 use Rattle.std.specs.Prelude.{Result, Ok, Err, OnOk}
-use Rattle.std.specs.HashMap.{HashMap, get_by}
+use Rattle.std.specs.HashMap.{get_by}
 use Rattle.std.specs.Option.{option_or, option_map}
 use Rattle.std.proofs.lemmas.List.Elements.{Contains-append_right}
 use Rattle.graphql_documents.proofs.ListLemmas.{stands_first}
@@ -9,9 +9,12 @@ use Rattle.std.proofs.lemmas.Option.{same_Some}
 use Rattle.std.proofs.lemmas.List.{get_or_append_left, get_or_push, length-append, map-append}
 use Rattle.std.proofs.lemmas.List.Folds.{find-append}
 use Rattle.std.proofs.lemmas.List.Quantifiers.{all_pairs_push}
-use Rattle.graphql_nodes.specs.Names.{NameText, AreDistinct, DifferentNames, same_name}
+use Rattle.std.specs.Str.{bytes_eq}
+use Rattle.graphql_nodes.proofs.NameLemmas.{same_text}
+use Rattle.graphql_nodes.specs.Names.{NameText, AreDistinct, DifferentNames, SameName, same_name}
 use Rattle.graphql_nodes.specs.declared.spans.SourceSpan.{SourceSpan}
-use Rattle.graphql_variables.specs.FirstPlaces.{IsNext, Remembers, place_in}
+use Rattle.graphql_variables.specs.FirstPlaces.{IsNext, Remembers, known_place, place_in, places_of}
+use Rattle.graphql_variables.specs.declared.first_places.FirstPlaces.{FirstPlaces}
 use Rattle.graphql_variables.proofs.SplitLemmas.{split_at}
 
 -- a first choice that is none was not taken
@@ -47,6 +50,22 @@ pub kept_or : {X : Type 0} (b : Bool) (x : X) (o : Option X) → (b ≡ true →
 kept_or b x (Some y) some = refl
 kept_or true x None some = absurd (some refl refl)
 kept_or false x None some = refl
+
+-- what is put behind the first of two choices may as well be put behind both
+pub between_or : {X : Type 0} (a b : Option X) (t : Bool) (x : X) → (t ≡ true → option_or a b ≡ None) →
+    option_or (option_or a (cond t (Some x) None)) b ≡ option_or (option_or a b) (cond t (Some x) None)
+between_or (Some y) b t x none = refl
+between_or None b true x none = rw (none refl) refl
+between_or None b false x none = sym (option_or_none b)
+
+pub three_or : {X : Type 0} (a b c : Option X) → option_or a (option_or b c) ≡ option_or (option_or a b) c
+three_or (Some x) b c = refl
+three_or None b c = refl
+
+-- where none of two choices is taken the second is none
+pub second_none : {X : Type 0} (a b : Option X) → option_or a b ≡ None → b ≡ None
+second_none (Some x) b e = absurd (let h : ⊥ = cc in h)
+second_none None b e = e
 
 pub map_in_front : {X Y : Type 0} (f : X → Y) (b : Bool) (x : X) (o : Option X) → option_map f (cond b (Some x) o) ≡ cond b (Some (f x)) (option_map f o)
 map_in_front f true x o = refl
@@ -140,7 +159,7 @@ place_of_first {X} visited xs name =
     ap (option_map (λ (m : NameText × Option SourceSpan). m.1)) (find_mapped visited (λ m. same_name m.0 name) xs) ∙
     twice_mapped visited (λ m. m.1) (find (λ (x : X). same_name (visited x).0 name) xs)
 
-place_more : (visited : List (NameText × Option SourceSpan)) (m : NameText × Option SourceSpan) (other : NameText) →
+pub place_more : (visited : List (NameText × Option SourceSpan)) (m : NameText × Option SourceSpan) (other : NameText) →
     place_in (visited ++ m ∷ []) other ≡ option_or (place_in visited other) (cond (same_name m.0 other) (Some m.1) None)
 place_more visited m other =
     let P = λ (n : NameText × Option SourceSpan). same_name n.0 other in
@@ -148,10 +167,16 @@ place_more visited m other =
     map_or (λ (n : NameText × Option SourceSpan). n.1) (find P visited) (find P (m ∷ [])) ∙
     ap (option_or (place_in visited other)) (map_choice (λ (n : NameText × Option SourceSpan). n.1) (same_name m.0 other) m)
 
+-- what is known of a name is known of each other one with its text
+pub same_known : (seen : FirstPlaces) (name other : NameText) → SameName name other → known_place seen name ≡ known_place seen other
+same_known seen name other same =
+    ap (λ (text : List ℕ). option_or
+    (option_map (λ (m : NameText × Option SourceSpan). m.1) (find (λ (m : NameText × Option SourceSpan). bytes_eq m.0.text text) (places_of seen.few.items)))
+    (get_by (λ (b : Bor NameText). bytes_eq text b.now.text) seen.others)) (same_text name other same)
+
 -- one more is remembered
-pub remembers_more : {S : Type 0} {seen new : HashMap (Bor NameText) (Option SourceSpan) S} {visited : List (NameText × Option SourceSpan)}
-    (name : NameText) (location : Option SourceSpan) →
-    ((other : NameText) → get_by (λ b. same_name other b.now) new ≡ option_or (get_by (λ b. same_name other b.now) seen) (cond (same_name name other) (Some location) None)) →
+pub remembers_more : {seen new : FirstPlaces} {visited : List (NameText × Option SourceSpan)} (name : NameText) (location : Option SourceSpan) →
+    ((other : NameText) → known_place new other ≡ option_or (known_place seen other) (cond (same_name name other) (Some location) None)) →
     Remembers seen visited → Remembers new (visited ++ (name, location) ∷ [])
 remembers_more {visited} name location more r = record {
   look_up = λ other.
@@ -160,7 +185,7 @@ remembers_more {visited} name location more r = record {
 }
 
 -- the same of a list
-pub remembers_next : {S X : Type 0} {seen : HashMap (Bor NameText) (Option SourceSpan) S} (visited : X → NameText × Option SourceSpan) (xs : List X) (x : X) →
+pub remembers_next : {X : Type 0} {seen : FirstPlaces} (visited : X → NameText × Option SourceSpan) (xs : List X) (x : X) →
     Remembers seen (map visited xs ++ visited x ∷ []) → Remembers seen (map visited (xs ++ x ∷ []))
 remembers_next {seen} visited xs x r = subst (Remembers seen) (sym (map-append visited xs (x ∷ []))) r
 

@@ -12,6 +12,8 @@ use Rattle.graphql_documents.specs.declared.documents.executables.FragmentSpread
 use Rattle.graphql_documents.specs.declared.documents.executables.Selection.TheVariants as kind
 use Rattle.graphql_documents.specs.declared.documents.executables.Selection.{Selection}
 use Rattle.graphql_nodes.specs.declared.nodes.Node.{Node}
+use Rattle.graphql_variables.specs.declared.unused.UsedNames.{UsedNames}
+use Rattle.graphql_variables.specs.declared.unused.UsedNames.TheVariants.{Few, Many}
 
 -- the new list is the old one with more names behind it, of which this holds
 pub record AddsNames (Are : List NameText → Type 0) (old new : List (Bor NameText)) : Type 0 where
@@ -50,6 +52,15 @@ UsedInDefinition fragments fragment name =
 abbrev pub NamesDefinitions : Fragments → List (Bor NameText) → List (Bor NameText) → Type 0
 NamesDefinitions fragments entered names =
     (fragment name : NameText) → IsNamedIn (names_of entered) fragment → UsedInDefinition fragments fragment name → IsNamedIn (names_of names) name
+
+-- the list has exactly the names of which this holds
+abbrev pub AreUsed : (NameText → Type 0) → List (Bor NameText) → Type 0
+AreUsed Used names = (name : NameText) → IsNamedIn (names_of names) name ↔ Used name
+
+-- the names among which others are looked up
+abbrev pub known_names : UsedNames → List (Bor NameText)
+known_names (Few names) = names.items
+known_names (Many set) = set.keys
 
 -- the set holds exactly the names of which this holds
 abbrev pub HasUsed : {S : Type 0} → (NameText → Type 0) → IndexSet (Bor NameText) S → Type 0

@@ -12,17 +12,25 @@ use std::alloc::Global;
 use std::collections::HashMap;
 use std::marker::Model;
 
-/// The variables of an operation, each found by its name without a walk over their definitions. Of
-/// those with one name the first is found.
+/// Up to so many variables are looked through for each name: that takes no memory, and no more time than a map.
+const FEW: usize = 8;
+
+/// The first variable of each name.
+type FirstOfEachName<'a> = HashMap<&'a Name, &'a Node<VariableDefinition>, HashSeed>;
+
+/// The variables of an operation, each found by its name in about constant time. Of those with one name the first is
+/// found.
 ///
 /// Specification: 5.8.1 Variable Uniqueness.
 #[derive(Drop)]
 pub struct VariablesByName<'a> {
     definitions: &'a [Node<VariableDefinition>],
-    first: HashMap<&'a Name, &'a Node<VariableDefinition>, HashSeed>,
+    // none where the variables are few
+    first: Option<FirstOfEachName<'a>>,
 }
 
 impl<'a> Model for VariablesByName<'a> {
+    ghost use Rattle.std.specs.Option.{ForSome};
     ghost use Rattle.std.specs.Prelude.{List};
     ghost use Rattle.graphql_documents.specs.declared.documents.definitions.VariableDefinition.{VariableDefinition};
     ghost use Rattle.graphql_nodes.specs.declared.nodes.Node.{Node};
@@ -37,11 +45,12 @@ impl<'a> Model for VariablesByName<'a> {
 
     ghost view = { λ variables. variables.definitions.now };
 
-    ghost invariant = { λ variables. FindsFirst variables.first variables.definitions.now };
+    ghost invariant = { λ variables. ForSome variables.first (λ first. FindsFirst first variables.definitions.now) };
 }
 
 impl<'a> VariablesByName<'a> {
-    /// The variables with these definitions, in a map of this seed. The only error is a failed allocation.
+    /// The variables with these definitions, their names hashed by this seed. The only error is a failed allocation; few
+    /// variables take no memory.
     pub fn new(
         alloc: Global,
         hash_seed: HashSeed,
@@ -49,19 +58,40 @@ impl<'a> VariablesByName<'a> {
     ) -> Result<VariablesByName<'a>, ValidationError>
         ensures { IfOk result (λ variables. variables ≡ definitions.now) }
     {
+        if definitions.len() <= FEW {
+            return Ok(VariablesByName {
+                definitions,
+                first: None,
+            });
+        }
         let first = first_of_each_name(alloc, hash_seed, definitions)?;
-        Ok(VariablesByName { definitions, first })
+        Ok(VariablesByName {
+            definitions,
+            first: Some(first),
+        })
     }
 
     /// The first variable with this name.
     pub fn find(&self, name: &Name) -> Option<&'a Node<VariableDefinition>>
         ensures { option_copied result ≡ variable_named name.now self.now }
     {
-        match self.first.get(&name) {
-            Some(variable) => Some(*variable),
-            None => None,
+        match &self.first {
+            None => first_named(self.definitions, name),
+            Some(first) => first.get(&name).copied(),
         }
     }
+}
+
+/// The first of these variables that has the name.
+fn first_named<'a>(
+    definitions: &'a [Node<VariableDefinition>],
+    name: &Name,
+) -> Option<&'a Node<VariableDefinition>>
+    ensures { option_copied result ≡ variable_named name.now definitions.now }
+{
+    definitions
+        .iter()
+        .find(|definition| definition.value.name == *name)
 }
 
 /// The first variable of each name.
@@ -69,7 +99,7 @@ fn first_of_each_name<'a>(
     alloc: Global,
     hash_seed: HashSeed,
     definitions: &'a [Node<VariableDefinition>],
-) -> Result<HashMap<&'a Name, &'a Node<VariableDefinition>, HashSeed>, ValidationError>
+) -> Result<FirstOfEachName<'a>, ValidationError>
     ensures { IfOk result (λ first. FindsFirst first definitions.now) }
 {
     let mut first = HashMap::with_hasher(alloc, hash_seed);
@@ -81,7 +111,7 @@ fn first_of_each_name<'a>(
 
 /// Adds a variable, unless one of its name is there.
 fn add_if_new<'a>(
-    first: &mut HashMap<&'a Name, &'a Node<VariableDefinition>, HashSeed>,
+    first: &mut FirstOfEachName<'a>,
     definition: &'a Node<VariableDefinition>,
 ) -> Result<(), ValidationError>
     ensures { OnOk result ((before : List (Node VariableDefinition)) → FindsFirst first.old before →

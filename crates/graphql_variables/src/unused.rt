@@ -1,13 +1,14 @@
 ghost use Rattle.std.specs.Prelude.{◌≡◌, ◌↔◌, [], ◌∷◌, All, Contains, IsTrue, IfOk, OnOk, MatchResult, map};
 ghost use Rattle.graphql_diagnostics.specs.Diagnostics.{IsDiagnostic, entries};
-ghost use Rattle.graphql_nodes.specs.Names.{NameText, different_names};
+ghost use Rattle.std.specs.List.{list_any};
+ghost use Rattle.graphql_nodes.specs.Names.{NameText, different_names, same_name};
 ghost use Rattle.graphql_diagnostics.specs.Reports.{Appends, Checks, KeepsReports};
 ghost use Rattle.graphql_documents.specs.Selections.{Fragments, Reachable, fragments_of};
 ghost use Rattle.graphql_specification.specs.Variables.{AreUnusedReports, AreUsesReports, UsesReport};
 ghost use Rattle.graphql_documents.specs.VariableUses.{UsesVariable};
 ghost use Rattle.graphql_documents.specs.declared.documents.executables.Operation.{Operation};
 ghost use Rattle.graphql_documents.specs.declared.documents.executables.Selection.{Selection};
-ghost use Rattle.graphql_variables.specs.Uses.{HasUsed, IsLastDefinition, IsNamedIn, NamesAlso, NamesDefinitions, UsedAt, UsedInDefinition, names_of};
+ghost use Rattle.graphql_variables.specs.Uses.{AreUsed, HasUsed, IsLastDefinition, IsNamedIn, NamesAlso, NamesDefinitions, UsedAt, UsedInDefinition, known_names, names_of};
 
 use super::uses::{add_in_arguments, add_in_directives};
 use super::walks::walk_selections_with_deduped_fragments;
@@ -17,6 +18,49 @@ use graphql_hash_seeds::HashSeed;
 use graphql_nodes::{Name, Node, SourceSpan, ValidationError};
 use indexmap::{IndexMap, IndexSet};
 use std::alloc::Global;
+
+/// Up to so many names are looked through for each one, which takes no more time than a set.
+const FEW: usize = 8;
+
+/// Names among which others are looked up.
+#[derive(Drop)]
+enum UsedNames<'doc> {
+    Few(Vec<&'doc Name>),
+    Many(IndexSet<&'doc Name, HashSeed>),
+}
+
+impl<'doc> UsedNames<'doc> {
+    /// These names. Many are hashed by this seed.
+    fn of(
+        alloc: Global,
+        hash_seed: HashSeed,
+        names: Vec<&'doc Name>,
+    ) -> Result<UsedNames<'doc>, ValidationError>
+        ensures { IfOk result (λ used. AreUsed (IsNamedIn (names_of names.entry.items)) (known_names used)) }
+    {
+        if names.len() <= FEW {
+            return Ok(UsedNames::Few(names));
+        }
+        Ok(UsedNames::Many(set_of(alloc, hash_seed, &names)?))
+    }
+
+    /// Whether this name is one of them.
+    fn contains(&self, name: &Name) -> bool
+        ensures { result ≡ list_any (λ used. same_name name.now used.now) (known_names self.now) }
+    {
+        match self {
+            UsedNames::Few(names) => is_among(name, names),
+            UsedNames::Many(names) => names.contains(&name),
+        }
+    }
+}
+
+/// Whether this name is one of those.
+fn is_among(name: &Name, names: &[&Name]) -> bool
+    ensures { result ≡ list_any (λ used. same_name name.now used.now) names.now }
+{
+    names.iter().any(|used| *name == **used)
+}
 
 /// Reports each variable of the operation that is not used: neither in its directives, nor in the
 /// directives or arguments of a selection that it reaches, nor in the directives of a fragment that it
@@ -51,9 +95,9 @@ fn used_variables<'doc>(
     document: &'doc ExecutableDocument,
     operation: &'doc Operation,
     selections: &[&'doc Selection],
-) -> Result<IndexSet<&'doc Name, HashSeed>, ValidationError>
+) -> Result<UsedNames<'doc>, ValidationError>
     ensures { ((s : Selection) → Contains (map (λ s. s.now) selections.now) s ↔ Reachable (fragments_of document.now) operation.now.selection_set s) →
-        IfOk result (HasUsed (UsesVariable (fragments_of document.now) operation.now)) }
+        IfOk result (λ used. AreUsed (UsesVariable (fragments_of document.now) operation.now) (known_names used)) }
 {
     let mut names = Vec::new(alloc);
     let mut entered = IndexSet::with_hasher(alloc, document.hash_seed());
@@ -61,7 +105,7 @@ fn used_variables<'doc>(
     for selection in selections {
         add_in_selection(&mut names, &mut entered, document, selection)?;
     }
-    set_of(alloc, document.hash_seed(), &names)
+    UsedNames::of(alloc, document.hash_seed(), names)
 }
 
 /// Adds the variables that a selection uses, except those below it. The directives of each fragment are gone through once, at
@@ -128,9 +172,9 @@ fn set_of<'doc>(
 fn report_unused(
     diagnostics: &mut DiagnosticList,
     variables: &IndexMap<&Name, &Node<VariableDefinition>, HashSeed>,
-    used: &IndexSet<&Name, HashSeed>,
+    used: &UsedNames<'_>,
 ) -> Result<(), ValidationError>
-    ensures { (fragments : Fragments) (o : Operation) → HasUsed (UsesVariable fragments o) used.now →
+    ensures { (fragments : Fragments) (o : Operation) → AreUsed (UsesVariable fragments o) (known_names used.now) →
         All (λ e. IsLastDefinition o.variables.items e.0.now e.1.now) variables.now.entries →
         MatchResult result
         (λ _. Appends (AreUnusedReports fragments o (map (λ e. e.0.now) variables.now.entries)) (entries diagnostics.old) (entries diagnostics.new))
@@ -162,16 +206,16 @@ fn last_definitions<'doc>(
 fn check_use(
     diagnostics: &mut DiagnosticList,
     variable: &Node<VariableDefinition>,
-    used: &IndexSet<&Name, HashSeed>,
+    used: &UsedNames<'_>,
 ) -> Result<(), ValidationError>
-    ensures { (fragments : Fragments) (o : Operation) (name : NameText) → HasUsed (UsesVariable fragments o) used.now →
+    ensures { (fragments : Fragments) (o : Operation) (name : NameText) → AreUsed (UsesVariable fragments o) (known_names used.now) →
         IsLastDefinition o.variables.items name variable.now →
         MatchResult result
         (λ _. Appends (AreUnusedReports fragments o (name ∷ [])) (entries diagnostics.old) (entries diagnostics.new))
         (λ _. entries diagnostics.new ≡ entries diagnostics.old) }
 {
     let name = &variable.value.name;
-    if used.contains(&name) {
+    if used.contains(name) {
         return Ok(());
     }
     let place = SourceSpan::recompose(variable.location, name.location());

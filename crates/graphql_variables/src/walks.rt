@@ -22,6 +22,9 @@ use std::alloc::Global;
 /// How deep a walk may go.
 const WALK_LIMIT: usize = 500;
 
+/// How many selections a walk has room for at first.
+const SOME: usize = 16;
+
 /// The selections that a walk visited, in the order in which it visited them, and whether it came to its end
 /// or passed its limit.
 #[derive(Drop)]
@@ -167,7 +170,7 @@ impl<'doc> SelectionWalk<'doc> {
     {
         let mut visited = Visited {
             visited_fragments: IndexSet::with_hasher(alloc, self.document.hash_seed()),
-            selections: Vec::new(alloc),
+            selections: Vec::with_capacity(alloc, SOME)?,
         };
         let mut depth = DepthCounter::new().with_limit(WALK_LIMIT);
         let complete = self.walk_set(set, &mut visited, &mut depth)?;

@@ -92,6 +92,9 @@ fn check_field_arguments(
         (IsDiagnostic (FieldReport (Some schema.now) (variables_of context.now) (Some parent.now) field.now))
         diagnostics.old diagnostics.new }
 {
+    if field.value.arguments.is_empty() && definition.node.value.arguments.is_empty() {
+        return Ok(());
+    }
     let arguments = GivenArguments::of_field(parent, field, definition);
     validate_given_arguments(diagnostics, schema, &arguments, &context.variables)?;
     validate_required_arguments(diagnostics, &arguments)
@@ -146,8 +149,11 @@ fn type_without_selection<'a>(
         (HasNeededSelection (Some schema.now) field.now field_type.now)
         (λ ty. IsUnselected (Some schema.now) field.now field_type.now ty.now) }
 {
+    if !field.selection_set.selections.is_empty() {
+        return None;
+    }
     let type_definition = schema.types.get(field_type.inner_named_type())?;
-    if type_definition.is_composite() && field.selection_set.selections.is_empty() {
+    if type_definition.is_composite() {
         Some(type_definition)
     } else {
         None

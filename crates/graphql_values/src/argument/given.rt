@@ -30,6 +30,9 @@ pub fn validate_given_arguments(
         (All (GivenArgumentHolds schema.now variables.now arguments.now.definitions.now) arguments.now.given.now)
         (IsDiagnostic (GivenArgumentReport schema.now variables.now arguments.now)) diagnostics.old diagnostics.new }
 {
+    if arguments.given.is_empty() {
+        return Ok(());
+    }
     let definitions = ByName::new(
         diagnostics.allocator(),
         diagnostics.hash_seed(),

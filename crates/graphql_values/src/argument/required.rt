@@ -22,6 +22,9 @@ pub fn validate_required_arguments(
         (All (RequiredArgumentIsProvided arguments.now.given.now) arguments.now.definitions.now)
         (IsDiagnostic (MissingArgumentReport arguments.now)) diagnostics.old diagnostics.new }
 {
+    if arguments.definitions.is_empty() {
+        return Ok(());
+    }
     let given = ByName::new(
         diagnostics.allocator(),
         diagnostics.hash_seed(),

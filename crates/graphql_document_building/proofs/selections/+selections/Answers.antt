@@ -91,11 +91,11 @@ build_selection_set-build_selection-requires t c =
     let falls : size-Selection c.tree-item.result ≤ most_size c.args.trees.now =
     item_is_no_deeper c.args.trees.now c.loop-tree.tree-index c.tree-item.result c.loop-tree-test.true c.tree-item.is in (
       omega (arith, falls, c.decreases),
-      (c.requires.proper, one_builds_in (schema_of c.args.definitions.now) c.args.ty.now c.args.trees.now c.tree-item.result stands c.requires.builds),
+      (c.requires.proper, (c.of_type-own_type.ensures, one_builds_in (schema_of c.args.definitions.now) c.args.ty.now c.args.trees.now c.tree-item.result stands c.requires.builds)),
     )
 
 pub build_selection_set-loop-tree-init : goal.build_selection_set-loop-tree-init
-build_selection_set-loop-tree-init t c = rw c.new-selections.ensures.items no_selections
+build_selection_set-loop-tree-init t c = rw c.in_ok-selections.ensures.items no_selections
 
 pub build_selection_set-loop-tree-preserved : goal.build_selection_set-loop-tree-preserved
 build_selection_set-loop-tree-preserved t c =

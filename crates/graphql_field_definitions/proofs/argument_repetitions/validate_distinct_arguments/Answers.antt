@@ -14,7 +14,7 @@ use Rattle.graphql_field_definitions.proofs.argument_repetitions.validate_distin
 pub loop-argument-init : goal.loop-argument-init
 loop-argument-init c = record {
   reported = holds _ _ _ (λ i j d lt h. absurd (let none : ⊥ = omega arith in none));
-  remembered = record { look_up = λ name. search rules };
+  remembered = c.with_hasher-seen.ensures;
 }
 
 pub returns-in_err-check_next_argument : goal.returns-in_err-check_next_argument

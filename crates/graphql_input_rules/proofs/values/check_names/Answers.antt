@@ -14,7 +14,7 @@ use Rattle.graphql_input_rules.proofs.values.check_names.Goals as goal
 pub loop-name-init : goal.loop-name-init
 loop-name-init c = record {
   reported = holds _ _ _ (λ i j d lt h. absurd (let none : ⊥ = omega arith in none));
-  remembered = record { look_up = λ name. search rules };
+  remembered = c.with_hasher-seen.ensures;
 }
 
 pub returns-in_err-check_name : goal.returns-in_err-check_name

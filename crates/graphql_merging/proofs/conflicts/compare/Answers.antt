@@ -13,13 +13,13 @@ use Rattle.graphql_field_conflicts.specs.declared.field_selections.FieldSelectio
 use Rattle.graphql_merging.proofs.conflicts.compare.Goals as goal
 
 pub report_types-requires : goal.report_types-requires
-report_types-requires c = (
+report_types-requires g c = (
   c.args.schema.now,
   λ same. let no = sym (c.have_one_shape.ensures.answer.1 same) ∙ c.if-have_one_shape.false in let no : ⊥ = cc in no,
 )
 
 pub report_conflict-requires : goal.report_conflict-requires
-report_conflict-requires c =
+report_conflict-requires g c =
     let x = selection_of c.args.first.now.selection in
     let y = selection_of c.args.field in
     let conflicts = subst (λ o. MatchOption o (SameNameAndArguments x.field.value.value y.field.value.value) (Conflicts x.field.value.value y.field.value.value)) c.in-Some.is
@@ -27,7 +27,7 @@ report_conflict-requires c =
     subst (λ (s : FieldSelection). Conflicts s.field.now.value.value y.field.value.value c.in-Some.conflict) (sym c.find_conflict.ensures.selection) conflicts
 
 pub returns-then-have_one_shape-clause-reports : goal.returns-then-have_one_shape-clause-reports
-returns-then-have_one_shape-clause-reports c =
+returns-then-have_one_shape-clause-reports g c =
     let schema = c.args.schema.now in
     let x = selection_of c.args.first.now.selection in
     let y = selection_of c.args.field in
@@ -36,7 +36,7 @@ returns-then-have_one_shape-clause-reports c =
     (compared_alike schema shape_pass x y reports (c.have_one_shape.ensures.answer.0 c.if-have_one_shape.true))
 
 pub returns-else-have_one_shape-clause-reports : goal.returns-else-have_one_shape-clause-reports
-returns-else-have_one_shape-clause-reports c =
+returns-else-have_one_shape-clause-reports g c =
     let schema = c.args.schema.now in
     let x = selection_of c.args.first.now.selection in
     let y = selection_of c.args.field in
@@ -45,7 +45,7 @@ returns-else-have_one_shape-clause-reports c =
     (λ same. let no = sym (c.have_one_shape.ensures.answer.1 same) ∙ c.if-have_one_shape.false in let no : ⊥ = cc in no)))
 
 pub returns-in-None-clause-reports : goal.returns-in-None-clause-reports
-returns-in-None-clause-reports c =
+returns-in-None-clause-reports g c =
     let schema = c.args.schema.now in
     let x = selection_of c.args.first.now.selection in
     let y = selection_of c.args.field in
@@ -56,7 +56,7 @@ returns-in-None-clause-reports c =
     c.in_ok-find_conflict-in-NamesAndArguments.ensures.conflict))
 
 pub returns-in-Some-clause-reports : goal.returns-in-Some-clause-reports
-returns-in-Some-clause-reports c =
+returns-in-Some-clause-reports g c =
     let schema = c.args.schema.now in
     let x = selection_of c.args.first.now.selection in
     let y = selection_of c.args.field in

@@ -1,4 +1,4 @@
-use Rattle.std.proofs.Common.{◌≡◌, ℕ, ◌+◌, ◌∷◌, ◌++◌, [], List, ap, arith, drop, length, refl, subst, sym, take, ◌∙◌}
+use Rattle.std.proofs.Common.{◌≡◌, ℕ, ◌+◌, ◌≤◌, ◌∷◌, ◌++◌, [], List, ap, arith, drop, length, refl, subst, sym, take, ◌∙◌}
 use Rattle.std.proofs.lemmas.List.{length-append, map-append, take-append-drop, take_all}
 use Rattle.graphql_documents.proofs.ListLemmas.{more_is}
 use Rattle.graphql_diagnostics.specs.Diagnostics.{entries}
@@ -11,6 +11,8 @@ use Rattle.graphql_field_conflicts.specs.FieldSelections as plain
 use Rattle.graphql_merging.specs.NumberedFields.{listed, selection_of}
 use Rattle.graphql_merging.specs.Groups.{pass_of}
 use Rattle.graphql_merging.specs.Passes.{IsConflictAmong, counted}
+use Rattle.graphql_merging.specs.Works.{compared_in}
+use Rattle.graphql_merging.proofs.WeightLemmas.{compared_more, compared_within}
 use Rattle.graphql_merging.specs.declared.numbered_fields.NumberedField.{NumberedField}
 use Rattle.graphql_merging.proofs.conflicts.compare_group.Goals as goal
 
@@ -23,7 +25,7 @@ no_fields [] none = refl
 no_fields (x ∷ xs) none = absurd (omega arith)
 
 pub returns-in_default-clause-conflicts : goal.returns-in_default-clause-conflicts
-returns-in_default-clause-conflicts c =
+returns-in_default-clause-conflicts g c =
     let schema = c.args.schema.now in
     let pass = pass_of c.args.pass in
     let reports = entries c.args.diagnostics.now in
@@ -31,16 +33,62 @@ returns-in_default-clause-conflicts c =
     (empty_compared schema pass reports)
 
 pub loop-field-init : goal.loop-field-init
-loop-field-init c = record {
+loop-field-init g c = record {
   reports = compared_none c.args.schema.now (pass_of c.args.pass) (plain.selection_of c.in_ok-first.first.selection) (entries c.args.diagnostics.now);
   comparisons = sym (counted_none (pass_of c.args.pass) c.args.examined.now.comparisons c.args.examined.now.small);
   lists = refl;
   read = c.in_ok-first.ensures.read;
   selection = refl;
+  steps = omega arith;
 }
 
+pub returns-in_err-compare-clause-steps : goal.returns-in_err-compare-clause-steps
+returns-in_err-compare-clause-steps g c =
+    let first = plain.selection_of c.in_ok-first.first.selection in
+    let first_is : first ≡ selection_of c.in-Some.first.now = ap plain.selection_of c.in_ok-first.ensures.selection ∙ c.selection.ensures in
+    let rest = c.in-Some.rest.now in
+    let i = c.loop-field.field-index in
+    let x = c.field-item.result in
+    let done = listed (take i rest) in
+    let one : listed (take (i + 1) rest) ≡ done ++ selection_of x ∷ [] =
+    ap listed (more_is rest i x c.loop-field-test.true c.field-item.is) ∙ map-append selection_of (take i rest) (x ∷ []) in
+    let taken : c.compare.new.steps ≤ c.take.new.self + compared_in c.args.pass (first ∷ selection_of x ∷ []) =
+    subst (λ y. c.compare.new.steps ≤ c.take.new.self + compared_in c.args.pass (first ∷ y ∷ [])) c.selection-in-loop-field.ensures
+    (subst (λ (s : FieldSelection). c.compare.new.steps ≤ c.take.new.self + compared_in c.args.pass (s ∷ plain.selection_of c.selection-in-loop-field.result ∷ []))
+    (ap plain.selection_of c.loop-field.invariant.selection) c.compare.ensures.steps) in
+    omega (
+      arith,
+      c.loop-field.invariant.steps,
+      c.take.ensures,
+      taken,
+      c.loop-field-test.true,
+      ap (λ l. compared_in c.args.pass (first ∷ l)) one,
+      compared_more c.args.pass first done (selection_of x),
+      compared_within c.args.pass first (listed (take (i + 1) rest)) (listed (drop (i + 1) rest)),
+      ap (λ l. compared_in c.args.pass (first ∷ l)) (parts (i + 1) rest),
+      ap length c.in-Some.ensures.cases.0,
+      ap (λ l. compared_in c.args.pass (listed l)) c.in-Some.ensures.cases.0,
+      ap (λ s. compared_in c.args.pass (s ∷ listed rest)) first_is,
+    )
+
+pub returns-clause-steps : goal.returns-clause-steps
+returns-clause-steps g c =
+    let first = plain.selection_of c.in_ok-first.first.selection in
+    let first_is : first ≡ selection_of c.in-Some.first.now = ap plain.selection_of c.in_ok-first.ensures.selection ∙ c.selection.ensures in
+    let rest = c.in-Some.rest.now in
+    let i = c.loop-field.field-index in
+    omega (
+      arith,
+      c.loop-field.invariant.steps,
+      c.loop-field.auto.field-index-end,
+      ap (λ l. compared_in c.args.pass (first ∷ listed l)) (take_all i rest c.loop-field-test.false),
+      ap length c.in-Some.ensures.cases.0,
+      ap (λ l. compared_in c.args.pass (listed l)) c.in-Some.ensures.cases.0,
+      ap (λ s. compared_in c.args.pass (s ∷ listed rest)) first_is,
+    )
+
 pub returns-in_err-compare-clause-truth : goal.returns-in_err-compare-clause-truth
-returns-in_err-compare-clause-truth c =
+returns-in_err-compare-clause-truth g c =
     let schema = c.args.schema.now in
     let pass = pass_of c.args.pass in
     let first = selection_of c.in-Some.first.now in
@@ -53,7 +101,7 @@ returns-in_err-compare-clause-truth c =
     (subst (λ (s : FieldSelection). Appends (ConflictsWith schema pass s (listed (take i rest))) (entries c.args.diagnostics.now) (entries c.loop-field.diagnostics)) first_is c.loop-field.invariant.reports))
 
 pub loop-field-preserved : goal.loop-field-preserved
-loop-field-preserved c =
+loop-field-preserved g c =
     let schema = c.args.schema.now in
     let pass = pass_of c.args.pass in
     let first = plain.selection_of c.in_ok-first.first.selection in
@@ -77,10 +125,16 @@ loop-field-preserved c =
       lists = c.compare.ensures.lists ∙ c.loop-field.invariant.lists;
       read = c.in_ok-compare.ensures.read;
       selection = c.compare.ensures.selection ∙ c.loop-field.invariant.selection;
+      steps =
+          let taken : c.compare.new.steps ≤ c.take.new.self + compared_in c.args.pass (first ∷ selection_of x ∷ []) =
+          subst (λ y. c.compare.new.steps ≤ c.take.new.self + compared_in c.args.pass (first ∷ y ∷ [])) c.selection-in-loop-field.ensures
+          (subst (λ (s : FieldSelection). c.compare.new.steps ≤ c.take.new.self + compared_in c.args.pass (s ∷ plain.selection_of c.selection-in-loop-field.result ∷ []))
+          (ap plain.selection_of c.loop-field.invariant.selection) c.compare.ensures.steps) in
+          omega (arith, c.loop-field.invariant.steps, c.take.ensures, taken, ap (λ l. compared_in c.args.pass (first ∷ l)) one, compared_more c.args.pass first done (selection_of x));
     }
 
 pub returns-clause-conflicts : goal.returns-clause-conflicts
-returns-clause-conflicts c =
+returns-clause-conflicts g c =
     let schema = c.args.schema.now in
     let pass = pass_of c.args.pass in
     let first = selection_of c.in-Some.first.now in
@@ -95,7 +149,7 @@ returns-clause-conflicts c =
     (subst (λ (s : FieldSelection). Appends (ConflictsWith schema pass s (listed (take i rest))) (entries c.args.diagnostics.now) (entries c.loop-field.diagnostics)) first_is c.loop-field.invariant.reports)))
 
 pub returns-clause-truth : goal.returns-clause-truth
-returns-clause-truth c =
+returns-clause-truth g c =
     let schema = c.args.schema.now in
     let pass = pass_of c.args.pass in
     let first = selection_of c.in-Some.first.now in

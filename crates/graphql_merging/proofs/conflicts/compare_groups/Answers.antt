@@ -1,4 +1,4 @@
-use Rattle.std.proofs.Common.{◌≡◌, ◌+◌, ◌-◌, ◌∷◌, ◌++◌, [], Contains, List, Vec, ap, length, refl, subst, sym, take, ◌∙◌}
+use Rattle.std.proofs.Common.{◌≡◌, ◌+◌, ◌-◌, ◌∷◌, ◌++◌, [], Contains, List, Vec, ap, arith, length, refl, subst, sym, take, ◌∙◌}
 use Rattle.std.proofs.lemmas.List.{append-nil, map-append}
 use Rattle.std.proofs.lemmas.List.Sums.{sum_by_push}
 use Rattle.std.specs.Prelude.{sum_by}
@@ -14,14 +14,16 @@ use Rattle.graphql_diagnostics.specs.declared.lists.DiagnosticEntry.{DiagnosticE
 use Rattle.graphql_documents.specs.declared.documents.schemas.Schema.{Schema}
 use Rattle.graphql_merging.proofs.ConflictLemmas.{kept_among}
 use Rattle.graphql_merging.proofs.PassLemmas.{conflicts_then, counted_none, counted_then}
+use Rattle.graphql_merging.proofs.WeightLemmas.{arguments_more, arguments_within, weight_more, weight_within}
 use Rattle.graphql_merging.specs.NumberedFields.{listed, lists_of}
 use Rattle.graphql_merging.specs.Groups.{pass_of}
 use Rattle.graphql_merging.specs.Passes.{IsConflictAmong, counted}
+use Rattle.graphql_merging.specs.Works.{compared_in}
 use Rattle.graphql_merging.specs.declared.numbered_fields.NumberedField.{NumberedField}
 use Rattle.graphql_merging.proofs.conflicts.compare_groups.Goals as goal
 
 pub loop-group-init : goal.loop-group-init
-loop-group-init c =
+loop-group-init g c =
     let schema = c.args.schema.now in
     let pass = pass_of c.args.pass in
     let reports = entries c.args.diagnostics.now in
@@ -30,6 +32,7 @@ loop-group-init c =
       comparisons = sym (counted_none pass c.args.examined.now.comparisons c.args.examined.now.small);
       lists = refl;
       truth = kept (IsConflictAmong schema pass (lists_of c.args.groups.now)) reports;
+      steps = omega arith;
     }
 
 -- what is reported of a group is true of all
@@ -38,7 +41,7 @@ whole : (schema : Schema) (pass : Pass) (groups : List (Vec NumberedField Global
 whole schema pass groups group old new stands = kept_among schema pass (listed group.items) (lists_of groups) old new (stands_mapped (λ g. listed g.items) groups group stands)
 
 pub returns-in_err-compare_group-clause-truth : goal.returns-in_err-compare_group-clause-truth
-returns-in_err-compare_group-clause-truth c =
+returns-in_err-compare_group-clause-truth g c =
     let schema = c.args.schema.now in
     let pass = pass_of c.args.pass in
     let group = c.group-item.result in
@@ -48,7 +51,7 @@ returns-in_err-compare_group-clause-truth c =
     c.deref.ensures.value c.compare_group.ensures.truth))
 
 pub loop-group-preserved : goal.loop-group-preserved
-loop-group-preserved c =
+loop-group-preserved g c =
     let schema = c.args.schema.now in
     let pass = pass_of c.args.pass in
     let groups = c.args.groups.now in
@@ -74,4 +77,16 @@ loop-group-preserved c =
       truth = kept_then c.loop-group.invariant.truth
           (whole schema pass groups group _ _ (i, c.loop-group-test.true, sym c.group-item.is)
           (subst (λ l. KeepsReports (IsConflictAmong schema pass (listed l ∷ [])) mid new) c.deref.ensures.value c.compare_group.ensures.truth));
+      steps = omega (arith, c.loop-group.invariant.steps, c.take.ensures, c.compare_group.ensures.steps, ap length c.deref.ensures.value,
+          weight_more groups i group c.loop-group-test.true c.group-item.is, arguments_more c.args.pass groups i group c.loop-group-test.true c.group-item.is,
+          ap (λ l. compared_in c.args.pass (listed l)) c.deref.ensures.value);
     }
+
+pub returns-in_err-compare_group-clause-steps : goal.returns-in_err-compare_group-clause-steps
+returns-in_err-compare_group-clause-steps g c =
+    let groups = c.args.groups.now in
+    let i = c.loop-group.group-index in
+    omega (arith, c.loop-group.invariant.steps, c.take.ensures, c.compare_group.ensures.steps, ap length c.deref.ensures.value,
+    weight_more groups i c.group-item.result c.loop-group-test.true c.group-item.is, weight_within groups (i + 1),
+    arguments_more c.args.pass groups i c.group-item.result c.loop-group-test.true c.group-item.is, arguments_within c.args.pass groups (i + 1),
+    ap (λ l. compared_in c.args.pass (listed l)) c.deref.ensures.value)

@@ -1,5 +1,5 @@
-use Rattle.std.proofs.Common.{◌∷◌, ◌++◌, [], map, subst, sym, ◌∙◌, ap}
-use Rattle.std.proofs.lemmas.List.{map-append}
+use Rattle.std.proofs.Common.{◌≡◌, ◌+◌, ◌∷◌, ◌++◌, [], arith, length, map, subst, sym, ◌∙◌, ap}
+use Rattle.std.proofs.lemmas.List.{length-append, map-append}
 use Rattle.std.proofs.lemmas.List.Elements.{All-contains}
 use Rattle.std.specs.Prelude.{◌==◌}
 use Rattle.std.specs.Vec.{vec_len}
@@ -16,7 +16,7 @@ use Rattle.graphql_merging.proofs.passes.nested_sets_of.Goals as goal
 use Rattle.graphql_merging.proofs.passes.nested_sets_of.Goals.{then-not-is_empty+in_ok-push, else-not-is_empty}
 
 pub loop-field-preserved : goal.loop-field-preserved
-loop-field-preserved c =
+loop-field-preserved g c =
     let contents = contents_in c.args.numbered.now in
     let set_in = λ (set : NumberedSet). set.set.now in
     let sets = c.loop-field.sets.items in
@@ -33,6 +33,8 @@ loop-field-preserved c =
             numbers = set_numbered contents sets _ _ w.in_ok-push.ensures.items
                 (subst (λ (f : Field). AreNumbered contents (selections_of f.selection_set) w.nested-contents.result.now) (sym c.deref.ensures)
                 (field_set_numbered contents x.field.now w.nested-contents.result.now (w.nested-contents.ensures (kind.Field x.field.now) has))) c.loop-field.invariant.numbers;
+            count = let more : length w.push.new.self.items ≡ length sets + 1 = ap length w.in_ok-push.ensures.items ∙ length-append sets _ in omega (arith, c.loop-field.invariant.count, more);
+            steps = omega (arith, c.loop-field.invariant.steps, c.take.ensures);
           })
-      | else-not-is_empty w ↦ rw w.sets-is (record { sets = both.1 w.if-not-is_empty.false; numbers = c.loop-field.invariant.numbers })
+      | else-not-is_empty w ↦ rw w.sets-is (record { sets = both.1 w.if-not-is_empty.false; numbers = c.loop-field.invariant.numbers; count = omega (arith, c.loop-field.invariant.count); steps = omega (arith, c.loop-field.invariant.steps, c.take.ensures) })
     ]

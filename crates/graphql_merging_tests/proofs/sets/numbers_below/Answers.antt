@@ -4,7 +4,7 @@ use Rattle.graphql_number_sets.specs.NumberSets.{numbers_of}
 use Rattle.graphql_merging_tests.proofs.sets.numbers_below.Goals as goal
 
 pub loop-number-preserved : goal.loop-number-preserved
-loop-number-preserved c =
+loop-number-preserved g c =
     let old = numbers_of c.loop-number.numbers in
     let n = c.loop-number.number in
     let below = λ (m : ℕ). m < n + 1 in

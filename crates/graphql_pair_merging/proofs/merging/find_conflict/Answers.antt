@@ -8,7 +8,7 @@ use Rattle.graphql_pair_merging.proofs.ConflictLemmas.{decided, linked, met_conf
 use Rattle.graphql_pair_merging.proofs.merging.find_conflict.Goals as goal
 
 pub find_conflict-requires-clause-linked : goal.find_conflict-requires-clause-linked
-find_conflict-requires-clause-linked c =
+find_conflict-requires-clause-linked g c =
     let F = fragments_in c.args.fragments.now in
     let sets = operation_sets c.args.operations.now in
     let n = c.in_ok-numbered.numbered in
@@ -16,7 +16,7 @@ find_conflict-requires-clause-linked c =
     (numbered_as F n.starts.items c.deref-2.result.now sets n.sets.items c.deref.result.now c.in_ok-numbered.ensures.sets c.deref-2.ensures.value c.deref.ensures.value)
 
 pub find_conflict-requires-clause-within : goal.find_conflict-requires-clause-within
-find_conflict-requires-clause-within c =
+find_conflict-requires-clause-within g c =
     let F = fragments_in c.args.fragments.now in
     let sets = operation_sets c.args.operations.now in
     let n = c.in_ok-numbered.numbered in
@@ -24,7 +24,7 @@ find_conflict-requires-clause-within c =
     (numbered_as F n.starts.items c.deref-2.result.now sets n.sets.items c.deref.result.now c.in_ok-numbered.ensures.sets c.deref-2.ensures.value c.deref.ensures.value)
 
 pub returns-in-Some-clause-found : goal.returns-in-Some-clause-found
-returns-in-Some-clause-found c =
+returns-in-Some-clause-found g c =
     let F = fragments_in c.args.fragments.now in
     let sets = operation_sets c.args.operations.now in
     let schema = c.args.schema.now in
@@ -36,7 +36,7 @@ returns-in-Some-clause-found c =
     (subst (λ o. MatchOption o (HasLooked schema shape_pass slice starts) (FindsBelow schema shape_pass slice starts)) c.in-Some.is c.in_ok-conflict.ensures.found)
 
 pub find_conflict-requires-2-clause-linked : goal.find_conflict-requires-2-clause-linked
-find_conflict-requires-2-clause-linked c =
+find_conflict-requires-2-clause-linked g c =
     let F = fragments_in c.args.fragments.now in
     let sets = operation_sets c.args.operations.now in
     let n = c.in_ok-numbered.numbered in
@@ -44,7 +44,7 @@ find_conflict-requires-2-clause-linked c =
     (numbered_as F n.starts.items c.deref-4.result.now sets n.sets.items c.deref-3.result.now c.in_ok-numbered.ensures.sets c.deref-4.ensures.value c.deref-3.ensures.value)
 
 pub find_conflict-requires-2-clause-within : goal.find_conflict-requires-2-clause-within
-find_conflict-requires-2-clause-within c =
+find_conflict-requires-2-clause-within g c =
     let F = fragments_in c.args.fragments.now in
     let sets = operation_sets c.args.operations.now in
     let n = c.in_ok-numbered.numbered in
@@ -52,7 +52,7 @@ find_conflict-requires-2-clause-within c =
     (numbered_as F n.starts.items c.deref-4.result.now sets n.sets.items c.deref-3.result.now c.in_ok-numbered.ensures.sets c.deref-4.ensures.value c.deref-3.ensures.value)
 
 pub returns-clause-found : goal.returns-clause-found
-returns-clause-found c =
+returns-clause-found g c =
     let F = fragments_in c.args.fragments.now in
     let sets = operation_sets c.args.operations.now in
     let schema = c.args.schema.now in
@@ -68,7 +68,7 @@ returns-clause-found c =
     decided c.find_conflict-2.result schema F starts sets slice are shapes c.find_conflict-2.ensures.found
 
 pub find_conflict-requires-clause-numbers : goal.find_conflict-requires-clause-numbers
-find_conflict-requires-clause-numbers c = subst HaveArgumentNumbers (sym c.deref.ensures.value) c.in_ok-numbered.ensures.arguments
+find_conflict-requires-clause-numbers g c = subst HaveArgumentNumbers (sym c.deref.ensures.value) c.in_ok-numbered.ensures.arguments
 
 pub find_conflict-requires-2-clause-numbers : goal.find_conflict-requires-2-clause-numbers
-find_conflict-requires-2-clause-numbers c = subst HaveArgumentNumbers (sym c.deref-3.ensures.value) c.in_ok-numbered.ensures.arguments
+find_conflict-requires-2-clause-numbers g c = subst HaveArgumentNumbers (sym c.deref-3.ensures.value) c.in_ok-numbered.ensures.arguments

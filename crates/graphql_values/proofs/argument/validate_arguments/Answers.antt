@@ -1,5 +1,5 @@
 -- Each argument is looked up among those before it, by what `seen` has of them.
-use Rattle.std.proofs.Common.{◌≡◌, None, take, sym, ap, ◌∙◌, subst, rules, arith}
+use Rattle.std.proofs.Common.{◌≡◌, None, take, sym, ap, ◌∙◌, subst, arith}
 use Rattle.std.proofs.lemmas.List.{take_all}
 use Rattle.graphql_specification.specs.Arguments.{AreRepetitionReports, RepetitionReport, HasDistinctNames}
 use Rattle.graphql_documents.specs.Directives.{argument_named}
@@ -9,14 +9,18 @@ use Rattle.graphql_diagnostics.proofs.ReportLemmas.{both, checks-err, holds, in_
 use Rattle.graphql_documents.proofs.ListLemmas.{more_is}
 use Rattle.graphql_values.specs.Repetitions.{argument_name, argument_place_in, visited_argument}
 use Rattle.graphql_variables.proofs.FirstPlaceLemmas.{place_of_first, remembers_next}
-use Rattle.graphql_values.proofs.RepetitionLemmas.{appends_more, appends_none, distinct_at, reports_more}
+use Rattle.graphql_values.proofs.RepetitionLemmas.{appends_more, appends_none, distinct_at, few_repeat_none, reports_more}
 use Rattle.graphql_values.proofs.argument.validate_arguments.Goals as goal
+
+pub returns-then-arguments-lt2-clause-exact : goal.returns-then-arguments-lt2-clause-exact
+returns-then-arguments-lt2-clause-exact c =
+    appends_none _ _ (few_repeat_none c.args.arguments.now (omega (arith, c.if-arguments-lt2.true)))
 
 pub loop-argument-init : goal.loop-argument-init
 loop-argument-init c = record {
   appended = appends_none _ _ tt;
   reported = holds _ _ _ (λ i j d lt h. absurd (let none : ⊥ = omega arith in none));
-  remembered = record { look_up = λ name. search rules };
+  remembered = c.with_hasher-seen.ensures;
 }
 
 pub returns-in_err-first-clause-checks : goal.returns-in_err-first-clause-checks

@@ -1,4 +1,4 @@
-use Rattle.std.proofs.Common.{take, subst, rules, arith}
+use Rattle.std.proofs.Common.{take, subst, arith}
 use Rattle.std.specs.Option.{option_copied}
 use Rattle.std.proofs.lemmas.List.{take_all}
 use Rattle.std.proofs.lemmas.List.Elements.{All-nil}
@@ -13,7 +13,7 @@ use Rattle.graphql_values.proofs.directive.check_directives.Goals as goal
 pub loop-directive-init : goal.loop-directive-init
 loop-directive-init c = record {
   reported = holds _ _ _ (record { each = All-nil _; repetitions = λ i j d lt h. absurd (let none : ⊥ = omega arith in none) });
-  remembered = record { look_up = λ name. search rules };
+  remembered = c.with_hasher-seen.ensures;
 }
 
 pub returns-in_err-validate_directive : goal.returns-in_err-validate_directive

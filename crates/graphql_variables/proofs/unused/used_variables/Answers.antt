@@ -1,8 +1,8 @@
-use Rattle.std.proofs.Common.{[], sym, subst}
+use Rattle.std.proofs.Common.{[], subst}
 use Rattle.std.proofs.lemmas.List.{take_all}
 use Rattle.graphql_documents.specs.Selections.{fragments_of}
 use Rattle.graphql_documents.specs.VariableUses.{StandsInDirectives}
-use Rattle.graphql_variables.specs.Uses.{NamesAlso}
+use Rattle.graphql_variables.specs.Uses.{NamesAlso, known_names}
 use Rattle.graphql_variables.proofs.DefinitionUseLemmas.{no_definitions}
 use Rattle.graphql_variables.proofs.NameSetLemmas.{has_used_by}
 use Rattle.graphql_variables.proofs.OperationUseLemmas.{UsedBy, used_all, used_first, used_more}
@@ -32,6 +32,4 @@ returns c = λ reach.
     let xs = c.args.selections.now in
     let all : NamesAlso (UsedBy fragments o xs xs) [] c.loop-selection.names.items =
     subst (λ l. NamesAlso (UsedBy fragments o xs l) [] c.loop-selection.names.items) (take_all c.loop-selection.selection-index xs c.loop-selection-test.false) c.loop-selection.invariant.0 in
-    let named : NamesAlso (UsedBy fragments o xs xs) [] c.deref-2.result.now =
-    subst (λ l. NamesAlso (UsedBy fragments o xs xs) [] l) (sym c.deref-2.ensures.value) all in
-    has_used_by c.set_of.result (λ set. set.keys) _ _ (used_all fragments o xs reach c.deref-2.result.now named) c.set_of.ensures
+    has_used_by c.of.result known_names _ _ (used_all fragments o xs reach c.loop-selection.names.items all) c.of.ensures

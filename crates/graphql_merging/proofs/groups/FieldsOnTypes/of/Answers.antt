@@ -1,4 +1,4 @@
-use Rattle.std.proofs.Common.{ap, fold, sym, [], ◌∷◌, ◌++◌, ◌∙◌}
+use Rattle.std.proofs.Common.{ap, arith, fold, sym, [], ◌∷◌, ◌++◌, ◌∙◌}
 use Rattle.std.proofs.lemmas.List.{take_all}
 use Rattle.std.proofs.lemmas.List.Elements.{All-contains}
 use Rattle.graphql_documents.specs.Schemas.{type_definition}
@@ -11,14 +11,14 @@ use Rattle.graphql_merging.proofs.NumberedGroupLemmas.{filter_more, fold_more}
 use Rattle.graphql_merging.proofs.groups.FieldsOnTypes.of.Goals as goal
 
 pub returns-clause-objects : goal.returns-clause-objects
-returns-clause-objects c =
+returns-clause-objects g c =
     c.loop-field.invariant.objects ∙
     ap (λ fields. fold (with_owned c.args.schema.now) [] (listed fields))
     (take_all c.loop-field.field-index c.args.fields.now c.loop-field-test.false) ∙
     owned c.args.schema.now (listed c.args.fields.now)
 
 pub loop-field-preserved : goal.loop-field-preserved
-loop-field-preserved c =
+loop-field-preserved g c =
     let schema = c.args.schema.now in
     let fields = c.args.fields.now in
     let x = c.field-item.result in
@@ -34,4 +34,6 @@ loop-field-preserved c =
       numbered = λ contents all.
           let held = before.numbered contents all in
           e.numbered contents held.0 held.1 (All-contains (IsNumberedIn contents) fields x all (i, c.loop-field-test.true, sym c.field-item.is));
+      few = omega (arith, before.few, e.few);
+      steps = omega (arith, before.steps, c.take.ensures);
     }

@@ -18,7 +18,7 @@ use Rattle.graphql_merging.proofs.MergingReportLemmas.{conflicts_reported}
 use Rattle.graphql_merging.proofs.merging.FieldsInSetCanMerge.examine_operation.Goals as goal
 
 pub returns-in_err-examine_set-clause-truth : goal.returns-in_err-examine_set-clause-truth
-returns-in_err-examine_set-clause-truth c =
+returns-in_err-examine_set-clause-truth g c =
     let m = c.args.self.now in
     let o = c.args.operation.now in
     let d = document_in c.number_operation.new.self in
@@ -28,7 +28,7 @@ returns-in_err-examine_set-clause-truth c =
     (c.in_err-examine_set.ensures.truth (o ∷ []) (λ fields expansion. merged_operation (stands_first o []) (subst (λ (v : Operation). Expansion (fragments_of d) (v.selection_set ∷ []) fields) c.deref.ensures expansion))))
 
 pub returns-in_err-examine_set-2-clause-truth : goal.returns-in_err-examine_set-2-clause-truth
-returns-in_err-examine_set-2-clause-truth c =
+returns-in_err-examine_set-2-clause-truth g c =
     let m = c.args.self.now in
     let o = c.args.operation.now in
     let d = document_in c.number_operation.new.self in
@@ -40,7 +40,7 @@ returns-in_err-examine_set-2-clause-truth c =
     (c.in_err-examine_set-2.ensures.truth (o ∷ []) (λ fields expansion. merged_operation (stands_first o []) (subst (λ (v : Operation). Expansion (fragments_of d) (v.selection_set ∷ []) fields) c.deref.ensures expansion)))))
 
 pub returns-clause-truth : goal.returns-clause-truth
-returns-clause-truth c =
+returns-clause-truth g c =
     let m = c.args.self.now in
     let o = c.args.operation.now in
     let d = document_in c.number_operation.new.self in
@@ -52,7 +52,7 @@ returns-clause-truth c =
     (c.in_ok-examine_set-2.ensures.truth (o ∷ []) (λ fields expansion. merged_operation (stands_first o []) (subst (λ (v : Operation). Expansion (fragments_of d) (v.selection_set ∷ []) fields) c.deref.ensures expansion)))))
 
 pub returns-clause-examines : goal.returns-clause-examines
-returns-clause-examines c =
+returns-clause-examines g c =
     let m = c.args.self.now in
     let d = document_in c.number_operation.new.self in
     let shapes = c.examine_set.new.examined in

@@ -12,10 +12,10 @@ use Rattle.graphql_merging.proofs.MergedOperationLemmas.{longer, merged_next, on
 use Rattle.graphql_merging.proofs.merging.FieldsInSetCanMerge.merge_operation.Goals as goal
 
 pub returns-in_err-deep-clause-reports : goal.returns-in_err-deep-clause-reports
-returns-in_err-deep-clause-reports c = kept_wider (λ e says. inl says) c.in_err-deep.ensures.truth
+returns-in_err-deep-clause-reports g c = kept_wider (λ e says. inl says) c.in_err-deep.ensures.truth
 
 pub returns-clause-reports : goal.returns-clause-reports
-returns-clause-reports c =
+returns-clause-reports g c =
     let m = c.args.self.now in
     let o = c.args.operation.now in
     let too_deep = c.examine_operation.new.self.too_deep || c.in_ok-deep.deep in
@@ -25,7 +25,7 @@ returns-clause-reports c =
     o too_deep (entries c.examine_operation.new.diagnostics) (entries c.report_limit.new.diagnostics) c.report_limit.ensures.limits c.report_limit.ensures.err)
 
 pub returns-clause-merges : goal.returns-clause-merges
-returns-clause-merges c =
+returns-clause-merges g c =
     let m = c.args.self.now in
     let S = schema_of m in
     let F = fragments_of (document_of m) in
@@ -54,7 +54,7 @@ returns-clause-merges c =
     one_more S F (one_fragment_found (document_of m)) o (merging_of m) new deep conflicts c.in_ok-deep.ensures.examines operations conflicting too_deep conflicts_is c.in_ok-report_limit.ensures.limits
 
 pub returns-clause-merged : goal.returns-clause-merged
-returns-clause-merged c =
+returns-clause-merged g c =
     let m = c.args.self.now in
     let S = schema_of m in
     let F = fragments_of (document_of m) in
@@ -83,7 +83,7 @@ returns-clause-merged c =
     merged_next S F (one_fragment_found (document_of m)) o (merging_of m) new deep conflicts c.in_ok-deep.ensures.examines operations conflicting too_deep conflicts_is
 
 pub returns-clause-truth : goal.returns-clause-truth
-returns-clause-truth c was =
+returns-clause-truth g c was =
     let m = c.args.self.now in
     let S = schema_of m in
     let F = fragments_of (document_of m) in

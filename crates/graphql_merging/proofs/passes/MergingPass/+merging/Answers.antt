@@ -18,16 +18,19 @@ use Rattle.graphql_merging.specs.Groups.{pass_of}
 use Rattle.graphql_merging.specs.Passes.{GoesBelow, IsConflict, counted}
 use Rattle.graphql_merging.specs.Stages.{examined_lists, stage_of}
 use Rattle.graphql_merging.proofs.PassLemmas.{below_cut, below_examined, parent_known, below_leaves, below_none, below_then, list_examined}
+use Rattle.graphql_merging.specs.Works.{compared_in, weight}
+use Rattle.graphql_merging.proofs.WeightLemmas.{weight_more, weight_within}
 use Rattle.graphql_merging.proofs.PassStepLemmas.{conflicts_true, count_at_limit, count_below_limit, counted_groups, each_group, expansion_known, group_among, new_unknown, no_items, not_reachable, some_items}
 use Rattle.graphql_laws.proofs.FieldContentsLaws.{same_fields_itself}
 use Rattle.graphql_merging.proofs.passes.MergingPass.+merging.Goals as goal
 
 pub examine-loop-group-init : goal.examine-loop-group-init
-examine-loop-group-init t c =
+examine-loop-group-init g t c =
     let self = c.args.self.now in
     record {
       limit = refl;
       work = λ unbounded. unbounded;
+      cost = λ bounded. (bounded, omega arith);
       known = still_examined (contents_in self.numbered.now) c.add.new.self c.compare_groups.new.examined c.compare_groups.ensures.lists
           (c.add.ensures.numbered (contents_in self.numbered.now) c.requires.known c.requires.list);
       below = below_none self.schema.now (fragments_of (document_in self.numbered.now)) (pass_of self.pass)
@@ -38,7 +41,7 @@ examine-loop-group-init t c =
 
 pub examine-returns-in_err-examine_below-clause-truth :
     goal.examine-returns-in_err-examine_below-clause-truth
-examine-returns-in_err-examine_below-clause-truth t c operations merged =
+examine-returns-in_err-examine_below-clause-truth g t c operations merged =
     let self = c.args.self.now in
     let S = self.schema.now in
     let F = fragments_of (document_in self.numbered.now) in
@@ -54,7 +57,7 @@ examine-returns-in_err-examine_below-clause-truth t c operations merged =
     (group_among (IsGroup S list pass) c.deref-group-items.result.now c.group-item.result all (c.loop-group.group-index, c.loop-group-test.true, sym c.group-item.is)))))
 
 pub examine-loop-group-preserved : goal.examine-loop-group-preserved
-examine-loop-group-preserved t c =
+examine-loop-group-preserved g t c =
     let self = c.args.self.now in
     let S = self.schema.now in
     let F = fragments_of (document_in self.numbered.now) in
@@ -66,6 +69,10 @@ examine-loop-group-preserved t c =
     record {
       limit = c.in_ok-examine_below.ensures.limit ∙ c.loop-group.invariant.limit;
       work = λ unbounded. (c.in_ok-examine_below.ensures.unbounded (c.loop-group.invariant.work unbounded)).0;
+      cost = λ bounded.
+          let before = c.loop-group.invariant.cost bounded in
+          let paid = c.in_ok-examine_below.ensures.cost before.0 in
+          (paid.0, omega (arith, before.1, c.take-in-loop-group.ensures, paid.1, ap length c.deref-in-loop-group.ensures.value, weight_more groups i item c.loop-group-test.true c.group-item.is));
       known = c.in_ok-examine_below.ensures.known;
       below = subst (λ g. GoesBelow S F pass g (stage_of c.compare_groups.new.examined c.args.depth.now c.compare_groups.new.diagnostics)
           (stage_of c.examine_below.new.examined c.examine_below.new.depth c.examine_below.new.diagnostics))
@@ -80,8 +87,61 @@ examine-loop-group-preserved t c =
           (group_among (IsGroup S above pass) groups item all (i, c.loop-group-test.true, sym c.group-item.is))));
     }
 
+pub examine-returns-in_err-examine_below-clause-cost : goal.examine-returns-in_err-examine_below-clause-cost
+examine-returns-in_err-examine_below-clause-cost g t c bounded =
+    let groups = c.deref-group-items.result.now in
+    let i = c.loop-group.group-index in
+    let made = c.in_ok-groups.ensures.spare bounded in
+    let counted = c.in_ok-count_arguments.ensures.spends made.0 in
+    let before = c.loop-group.invariant.cost counted.0 in
+    let paid = c.examine_below.ensures.cost before.0 in
+    (paid.0, omega (
+      arith,
+      made.1,
+      c.take.ensures,
+      c.len.ensures ∙ c.args.list.fields.ok.0,
+      counted.1,
+      c.count_arguments.ensures.steps,
+      c.compare_groups.ensures.steps,
+      before.1,
+      c.take-in-loop-group.ensures,
+      paid.1,
+      ap length c.deref.ensures.value,
+      ap (λ l. weight (lists_of l)) c.deref-2.ensures.value,
+      ap (λ l. weight (lists_of l)) c.deref-3.ensures.value,
+      ap (λ l. sum_by (compared_in c.args.self.now.pass) (lists_of l)) c.deref-2.ensures.value,
+      ap (λ l. sum_by (compared_in c.args.self.now.pass) (lists_of l)) c.deref-3.ensures.value,
+      ap (λ l. weight (lists_of l)) c.deref-group-items.ensures.value,
+      ap length c.deref-in-loop-group.ensures.value,
+      weight_more groups i c.group-item.result c.loop-group-test.true c.group-item.is,
+      weight_within groups (i + 1),
+    ))
+
+pub examine-returns-clause-cost : goal.examine-returns-clause-cost
+examine-returns-clause-cost g t c bounded =
+    let made = c.in_ok-groups.ensures.spare bounded in
+    let counted = c.in_ok-count_arguments.ensures.spends made.0 in
+    let below = c.loop-group.invariant.cost counted.0 in
+    (below.0, omega (
+      arith,
+      made.1,
+      c.take.ensures,
+      c.len.ensures ∙ c.args.list.fields.ok.0,
+      counted.1,
+      c.count_arguments.ensures.steps,
+      c.compare_groups.ensures.steps,
+      below.1,
+      ap length c.deref.ensures.value,
+      ap (λ l. weight (lists_of l)) c.deref-2.ensures.value,
+      ap (λ l. weight (lists_of l)) c.deref-3.ensures.value,
+      ap (λ l. sum_by (compared_in c.args.self.now.pass) (lists_of l)) c.deref-2.ensures.value,
+      ap (λ l. sum_by (compared_in c.args.self.now.pass) (lists_of l)) c.deref-3.ensures.value,
+      ap (λ l. weight (lists_of l)) c.deref-group-items.ensures.value,
+      weight_within c.deref-group-items.result.now c.loop-group.group-index,
+    ))
+
 pub examine-returns-clause-examines : goal.examine-returns-clause-examines
-examine-returns-clause-examines t c =
+examine-returns-clause-examines g t c =
     let self = c.args.self.now in
     let S = self.schema.now in
     let F = fragments_of (document_in self.numbered.now) in
@@ -101,7 +161,7 @@ examine-returns-clause-examines t c =
     (subst (λ g. GoesBelow S F pass g mid new) (ap lists_of (take_all c.loop-group.group-index c.deref-group-items.result.now c.loop-group-test.false) ∙ walked) c.loop-group.invariant.below)
 
 pub examine-returns-clause-truth : goal.examine-returns-clause-truth
-examine-returns-clause-truth t c operations merged =
+examine-returns-clause-truth g t c operations merged =
     let self = c.args.self.now in
     let S = self.schema.now in
     let F = fragments_of (document_in self.numbered.now) in
@@ -114,7 +174,7 @@ examine-returns-clause-truth t c operations merged =
 
 pub examine_below-returns-then-is_empty-clause-examines :
     goal.examine_below-returns-then-is_empty-clause-examines
-examine_below-returns-then-is_empty-clause-examines t c =
+examine_below-returns-then-is_empty-clause-examines g t c =
     let self = c.args.self.now in
     let empty = no_items c.in_ok-sets.sets c.is_empty.result c.is_empty.ensures c.if-is_empty.true in
     below_leaves self.schema.now (fragments_of (document_in self.numbered.now)) (pass_of self.pass) (listed c.args.group.now) (stage_of c.args.examined.now c.args.depth.now c.args.diagnostics.now)
@@ -122,7 +182,7 @@ examine_below-returns-then-is_empty-clause-examines t c =
 
 pub examine_below-returns-then-knows-clause-examines :
     goal.examine_below-returns-then-knows-clause-examines
-examine_below-returns-then-knows-clause-examines t c =
+examine_below-returns-then-knows-clause-examines g t c =
     let self = c.args.self.now in
     let F = fragments_of (document_in self.numbered.now) in
     let group = listed c.args.group.now in
@@ -133,7 +193,7 @@ examine_below-returns-then-knows-clause-examines t c =
     (c.knows.ensures.0 c.if-knows.true))
 
 pub examine_below-returns-then-check_and_increment-clause-examines : goal.examine_below-returns-then-check_and_increment-clause-examines
-examine_below-returns-then-check_and_increment-clause-examines t c =
+examine_below-returns-then-check_and_increment-clause-examines g t c =
     let self = c.args.self.now in
     let F = fragments_of (document_in self.numbered.now) in
     let group = listed c.args.group.now in
@@ -148,7 +208,7 @@ examine_below-returns-then-check_and_increment-clause-examines t c =
     (c.check_and_increment.ensures.reachable.0 c.if-check_and_increment.true ∙ c.requires.limit) refl refl at.0 (at.1 ∙ ap (λ n. n + 1) c.requires.limit) refl
 
 pub examine_below-examine-requires : goal.examine_below-examine-requires
-examine_below-examine-requires t c =
+examine_below-examine-requires g t c = λ κs outlives.
     let old = stage_of c.args.examined.now c.args.depth.now c.args.diagnostics.now in
     let down = stage_of c.args.examined.now c.check_and_increment.new.self c.args.diagnostics.now in
     let below = count_below_limit c.check_and_increment.result old.depth down.depth (count_limit c.args.depth.now) old.highest down.highest
@@ -157,13 +217,16 @@ examine_below-examine-requires t c =
     let within : old.depth < merging_depth_limit = not_reachable c.check_and_increment.result old.depth (count_limit c.args.depth.now) c.check_and_increment.ensures.reachable c.if-check_and_increment.false c.args.depth.now.within c.requires.limit in (
       omega (arith, step, within, c.decreases),
       (
-        c.check_and_increment.ensures.limit ∙ c.requires.limit,
+        outlives,
         (
-          c.in_ok-list.ensures.numbers,
+          c.check_and_increment.ensures.limit ∙ c.requires.limit,
           (
-            c.requires.known,
-            new_unknown (examined_lists c.args.examined.now) (listed c.in_ok-list.list.fields.items)
-                (λ any. let known = c.knows.ensures.1 any in let no : ⊥ = cc in no),
+            c.in_ok-list.ensures.numbers,
+            (
+              c.requires.known,
+              new_unknown (examined_lists c.args.examined.now) (listed c.in_ok-list.list.fields.items)
+                  (λ any. let known = c.knows.ensures.1 any in let no : ⊥ = cc in no),
+            ),
           ),
         ),
       ),
@@ -171,7 +234,7 @@ examine_below-examine-requires t c =
 
 pub examine_below-returns-in_err-examine-clause-truth :
     goal.examine_below-returns-in_err-examine-clause-truth
-examine_below-returns-in_err-examine-clause-truth t c operations above merged is_group =
+examine_below-returns-in_err-examine-clause-truth g t c operations above merged is_group =
     let sets = c.in_ok-sets.ensures.sets in
     c.examine.ensures.truth operations (merged_below merged record {
       group = listed c.args.group.now;
@@ -181,7 +244,7 @@ examine_below-returns-in_err-examine-clause-truth t c operations above merged is
     })
 
 pub examine_below-returns-clause-examines : goal.examine_below-returns-clause-examines
-examine_below-returns-clause-examines t c =
+examine_below-returns-clause-examines g t c =
     let self = c.args.self.now in
     let F = fragments_of (document_in self.numbered.now) in
     let group = listed c.args.group.now in
@@ -199,7 +262,7 @@ examine_below-returns-clause-examines t c =
     refl refl c.decrement.ensures.count c.decrement.ensures.high refl
 
 pub examine_below-returns-clause-truth : goal.examine_below-returns-clause-truth
-examine_below-returns-clause-truth t c operations above merged is_group =
+examine_below-returns-clause-truth g t c operations above merged is_group =
     let sets = c.in_ok-sets.ensures.sets in
     c.in_ok-examine.ensures.truth operations (merged_below merged record {
       group = listed c.args.group.now;
@@ -209,9 +272,9 @@ examine_below-returns-clause-truth t c operations above merged is_group =
     })
 
 pub examine_below-knows-requires : goal.examine_below-knows-requires
-examine_below-knows-requires t c =
+examine_below-knows-requires g t c =
     in_one_table c.args.self.now.numbered.now c.args.examined.now c.in_ok-list.list.fields.items c.requires.known c.in_ok-list.ensures.numbers
 
 pub examine-add-requires-clause-numbered : goal.examine-add-requires-clause-numbered
-examine-add-requires-clause-numbered t c =
+examine-add-requires-clause-numbered g t c =
     in_one_table c.args.self.now.numbered.now c.args.examined.now c.args.list.fields.items c.requires.known c.requires.list

@@ -14,19 +14,20 @@ use Rattle.graphql_merging.specs.Groups.{pass_of}
 use Rattle.graphql_merging.specs.Passes.{GoesBelow, IsConflict}
 use Rattle.graphql_merging.specs.Stages.{stage_of}
 use Rattle.graphql_merging.specs.Tables.{IsExaminedIn}
-use Rattle.graphql_merging.specs.Works.{IsUnbounded}
+use Rattle.graphql_merging.specs.Works.{IsUnbounded, Pays, weight}
 use Rattle.graphql_merging.proofs.passes.MergingPass.+merging.Given as goal
 
 abbrev pub decreases-examine : goal.decreases-examine
-decreases-examine l = 2 * (merging_depth_limit - count_of l.depth.now) + 1
+decreases-examine g l = 2 * (merging_depth_limit - count_of l.depth.now) + 1
 
 abbrev pub decreases-examine_below : goal.decreases-examine_below
-decreases-examine_below l = 2 * (merging_depth_limit - count_of l.depth.now)
+decreases-examine_below g l = 2 * (merging_depth_limit - count_of l.depth.now)
 
 abbrev pub invariant-examine-loop-group : goal.invariant-examine-loop-group
-invariant-examine-loop-group l = record {
+invariant-examine-loop-group g l = record {
   limit : count_limit l.depth ≡ count_limit l.initial.depth;
   work : IsUnbounded l.initial.work → IsUnbounded l.work;
+  cost : Pays l.initial.work l.work l.initial.steps l.steps (2 * weight (lists_of (take l.group-index l.group-items)));
   known : IsExaminedIn (contents_in l.self.numbered.now) l.examined;
   below : GoesBelow l.self.schema.now (fragments_of (document_in l.self.numbered.now)) (pass_of l.self.pass) (lists_of (take l.group-index l.group-items))
       (stage_of l.initial.examined l.initial.depth l.initial.diagnostics) (stage_of l.examined l.depth l.diagnostics);

@@ -15,7 +15,7 @@ use Rattle.graphql_laws.proofs.FieldContentsLaws.{same_fields_itself}
 use Rattle.graphql_merging.proofs.passes.MergingPass.examine_set.Goals as goal
 
 pub returns-then-knows-clause-examines : goal.returns-then-knows-clause-examines
-returns-then-knows-clause-examines c =
+returns-then-knows-clause-examines g c =
     let self = c.args.self.now in
     let stage = stage_of c.args.examined.now c.args.depth.now c.args.diagnostics.now in
     let fields = listed c.in_ok-list.list.fields.items in
@@ -25,7 +25,7 @@ returns-then-knows-clause-examines c =
     set_known self.schema.now (fragments_of (document_in self.numbered.now)) (pass_of self.pass) c.args.set.set.now fields known.0 stage c.args.examined.now.small expansion known.1 known.2
 
 pub returns-clause-examines : goal.returns-clause-examines
-returns-clause-examines c =
+returns-clause-examines g c =
     let self = c.args.self.now in
     let S = self.schema.now in
     let F = fragments_of (document_in self.numbered.now) in
@@ -39,11 +39,11 @@ returns-clause-examines c =
     (set_examined S F pass same_fields_itself c.args.set.set.now fields old new expansion) c.examine.ensures.examines
 
 pub returns-clause-truth : goal.returns-clause-truth
-returns-clause-truth c operations merged =
+returns-clause-truth g c operations merged =
     let fields = listed c.in_ok-list.list.fields.items in
     let one : c.in_ok-vec.field-0.items ≡ c.args.set ∷ [] = search rules in
     let expansion = subst (λ (sets : List NumberedSet). Expansion (fragments_of (document_in c.args.self.now.numbered.now)) (map (λ set. set.set.now) sets) fields) one c.in_ok-list.ensures.fields in
     c.examine.ensures.truth operations (merged fields expansion)
 
 pub knows-requires : goal.knows-requires
-knows-requires c = in_one_table c.args.self.now.numbered.now c.args.examined.now c.in_ok-list.list.fields.items c.requires.known c.in_ok-list.ensures.numbers
+knows-requires g c = in_one_table c.args.self.now.numbered.now c.args.examined.now c.in_ok-list.list.fields.items c.requires.known c.in_ok-list.ensures.numbers

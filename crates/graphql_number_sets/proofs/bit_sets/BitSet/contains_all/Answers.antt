@@ -5,7 +5,7 @@ use Rattle.graphql_number_sets.proofs.BitLemmas.{lacking_bit, nothing_lacks}
 use Rattle.graphql_number_sets.proofs.bit_sets.BitSet.contains_all.Goals as goal
 
 pub returns-then-word-ne0-clause-one : goal.returns-then-word-ne0-clause-one
-returns-then-word-ne0-clause-one c missed =
+returns-then-word-ne0-clause-one g c missed =
     let words = c.args.self.now.words.items in
     let others = c.args.other.now.words.items in
     let place = c.loop-place.place in
@@ -15,7 +15,7 @@ returns-then-word-ne0-clause-one c missed =
     ap (λ w. bit_and (word_at others place) (18446744073709551615 - w)) c.word.ensures ∙ e))
 
 pub returns-clause-all : goal.returns-clause-all
-returns-clause-all c all =
+returns-clause-all g c all =
     let others = c.args.other.now.words.items in
     let past : length others ≤ c.loop-place.place = subst (λ l. length l ≤ c.loop-place.place) c.deref-word-items.ensures.value c.loop-place-test.false in
     nothing_lacks c.args.self.now.words.items others

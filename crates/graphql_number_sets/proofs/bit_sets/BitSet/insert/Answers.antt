@@ -5,7 +5,7 @@ use Rattle.graphql_number_sets.proofs.BitLemmas.{inserted, read_at}
 use Rattle.graphql_number_sets.proofs.bit_sets.BitSet.insert.Goals as goal
 
 pub returns-clause-added : goal.returns-clause-added
-returns-clause-added c other =
+returns-clause-added g c other =
     let old = c.args.self.now.words.items in
     let made = c.make_words.new.self.words in
     let n = c.args.number in

@@ -5,7 +5,7 @@ use Rattle.graphql_number_sets.proofs.NumberLemmas.{row_has, where_ok}
 use Rattle.graphql_number_sets.proofs.pair_sets.PairSet.place.Goals as goal
 
 pub returns-then-not-contains-clause-placed : goal.returns-then-not-contains-clause-placed
-returns-then-not-contains-clause-placed c =
+returns-then-not-contains-clause-placed g c =
     let rows = c.args.self.now.rows in
     let row = c.index-row.result.now in
     let n = c.args.number in
@@ -14,7 +14,7 @@ returns-then-not-contains-clause-placed c =
     where_ok c.add.result (λ add. is_end n (inr refl) (ap (λ o. has_in o n) at ∙ sym c.if-not-contains.ensures) add refl) c.add.ensures.added
 
 pub returns-then-contains_all-clause-placed : goal.returns-then-contains_all-clause-placed
-returns-then-contains_all-clause-placed c =
+returns-then-contains_all-clause-placed g c =
     let rows = c.args.self.now.rows in
     let row = c.index-row.result.now in
     let n = c.args.number in
@@ -26,7 +26,7 @@ returns-then-contains_all-clause-placed c =
     c.add-then-contains_all.ensures.added
 
 pub returns-else-contains_all-clause-placed : goal.returns-else-contains_all-clause-placed
-returns-else-contains_all-clause-placed c =
+returns-else-contains_all-clause-placed g c =
     let rows = c.args.self.now.rows in
     let row = c.index-row.result.now in
     let n = c.args.number in

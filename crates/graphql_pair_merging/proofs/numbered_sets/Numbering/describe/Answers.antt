@@ -1,4 +1,4 @@
-use Rattle.std.proofs.Common.{◌≡◌, ◌+◌, ◌∷◌, ◌++◌, [], ap, append_assoc, subst, sym, take, ◌∙◌}
+use Rattle.std.proofs.Common.{◌≡◌, ◌+◌, ◌∷◌, ◌++◌, [], ap, append_assoc, subst, sym, take, ◌∙◌, arith}
 use Rattle.std.specs.Prelude.{filter_map}
 use Rattle.std.proofs.lemmas.List.{take_all}
 use Rattle.std.proofs.lemmas.List.Elements.{filter_map-append}
@@ -10,7 +10,7 @@ use Rattle.graphql_value_numbers.proofs.NumberLaws.{grows_then}
 use Rattle.graphql_pair_merging.proofs.numbered_sets.Numbering.describe.Goals as goal
 
 pub add_selection-requires : goal.add_selection-requires
-add_selection-requires c =
+add_selection-requires g c =
     let i = c.loop-selection.invariant in
     let written = filter_map written_set (take c.loop-selection.selection-index c.deref-selection-items.result.now) in (
       c.requires.0 ++ written,
@@ -19,7 +19,7 @@ add_selection-requires c =
     )
 
 pub loop-selection-preserved : goal.loop-selection-preserved
-loop-selection-preserved c =
+loop-selection-preserved g c =
     let i = c.loop-selection.invariant in
     let e = c.in_ok-add_selection.ensures in
     let xs = c.deref-selection-items.result.now in
@@ -46,16 +46,17 @@ loop-selection-preserved c =
           (subst (λ f. Describes (fragments_in f.now) after old.set.now.ty (done ++ s ∷ []) new) i.fragments described));
       grows = grows_then (shapes_of c.args.self.now.values) (shapes_of c.loop-selection.self.values) (shapes_of c.add_selection.new.self.values) i.grows e.grows;
       arguments = e.arguments i.arguments;
+      cost = omega (arith, i.cost, c.take.ensures);
     }
 
 pub returns-clause-sets : goal.returns-clause-sets
-returns-clause-sets c =
+returns-clause-sets g c =
     let i = c.loop-selection.invariant in
     let all = take_all c.loop-selection.selection-index c.deref-selection-items.result.now c.loop-selection-test.false ∙ c.deref-selection-items.ensures.value in
     i.sets ∙ ap (λ l. sets_at c.args.self.now.sets.items ++ filter_map written_set l) all
 
 pub returns-clause-described : goal.returns-clause-described
-returns-clause-described c =
+returns-clause-described g c =
     let i = c.loop-selection.invariant in
     let all = take_all c.loop-selection.selection-index c.deref-selection-items.result.now c.loop-selection-test.false ∙ c.deref-selection-items.ensures.value in
     subst (λ l. Describes (fragments_in c.args.self.now.fragments.now) (sets_at c.loop-selection.self.sets.items) c.args.set.now.ty l c.loop-selection.described) all i.described

@@ -1,4 +1,4 @@
-use Rattle.std.proofs.Common.{◌≡◌, ◌+◌, ◌∷◌, ◌++◌, [], Some, ap, append_assoc, append-nil, map, refl, sym, take, ◌∙◌}
+use Rattle.std.proofs.Common.{◌≡◌, ◌+◌, ◌∷◌, ◌++◌, [], Some, ap, append_assoc, append-nil, map, refl, sym, take, ◌∙◌, arith}
 use Rattle.std.specs.Prelude.{slice_get}
 use Rattle.std.proofs.lemmas.List.{map-append, take_all}
 use Rattle.graphql_documents.proofs.ListLemmas.{more_is}
@@ -9,15 +9,16 @@ use Rattle.graphql_pair_merging.proofs.NumberLemmas.{numbers_next}
 use Rattle.graphql_pair_merging.proofs.numbered_sets.Numbering.number_operations.Goals as goal
 
 pub loop-operation-init : goal.loop-operation-init
-loop-operation-init c = record {
+loop-operation-init g c = record {
   fragments = refl;
   values = refl;
   sets = sym (append-nil (sets_at c.args.self.now.sets.items));
   numbers = ap (map (slice_get (sets_at c.args.self.now.sets.items))) c.new-numbers.ensures.items;
+  cost = omega arith;
 }
 
 pub loop-operation-preserved : goal.loop-operation-preserved
-loop-operation-preserved c =
+loop-operation-preserved g c =
     let i = c.loop-operation.invariant in
     let e = c.in_ok-number.ensures in
     let xs = c.args.operations.now in
@@ -36,14 +37,15 @@ loop-operation-preserved c =
       sets = grown ∙ ap (λ l. l ++ set ∷ []) i.sets ∙ append_assoc (sets_at c.args.self.now.sets.items) done (set ∷ []) ∙ ap (λ l. sets_at c.args.self.now.sets.items ++ l) (sym more);
       numbers = numbers_next known after c.loop-operation.numbers.items c.push.new.self.items done (operation_sets (take (n + 1) xs)) set c.in_ok-number.number
           grown e.number c.in_ok-push.ensures.items more i.numbers;
+      cost = omega (arith, i.cost, c.take.ensures);
     }
 
 pub returns-clause-sets : goal.returns-clause-sets
-returns-clause-sets c =
+returns-clause-sets g c =
     c.loop-operation.invariant.sets ∙
     ap (λ l. sets_at c.args.self.now.sets.items ++ operation_sets l) (take_all c.loop-operation.operation-index c.args.operations.now c.loop-operation-test.false)
 
 pub returns-clause-numbers : goal.returns-clause-numbers
-returns-clause-numbers c =
+returns-clause-numbers g c =
     c.loop-operation.invariant.numbers ∙
     ap (λ l. map (λ (s : SelectionSet). Some s) (operation_sets l)) (take_all c.loop-operation.operation-index c.args.operations.now c.loop-operation-test.false)

@@ -10,7 +10,7 @@ use Rattle.graphql_pair_merging.proofs.SettleLemmas.{apart, of_group, settled_na
 use Rattle.graphql_pair_merging.proofs.pairs.PairPass.look_at_one_parent.Goals as goal
 
 pub returns-then-not-parents_may_overlap-clause-found : goal.returns-then-not-parents_may_overlap-clause-found
-returns-then-not-parents_may_overlap-clause-found c all key is =
+returns-then-not-parents_may_overlap-clause-found g c all key is =
     let schema = c.args.self.now.schema.now in
     let fields = c.args.fields.now in
     let one = c.in-Some.one.now in
@@ -21,7 +21,7 @@ returns-then-not-parents_may_overlap-clause-found c all key is =
     (subst (λ p. ArePutTogether schema p (field_of x) (field_of y)) c.requires put))
 
 pub returns-clause-found : goal.returns-clause-found
-returns-clause-found c all key is =
+returns-clause-found g c all key is =
     let schema = c.args.self.now.schema.now in
     let pass = pass_of c.args.self.now.pass in
     let fields = c.args.fields.now in

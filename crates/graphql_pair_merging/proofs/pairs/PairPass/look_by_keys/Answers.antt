@@ -1,4 +1,4 @@
-use Rattle.std.proofs.Common.{◌≡◌, ◌+◌, inl, inr, refl, subst, take, true, ap, ◌∙◌}
+use Rattle.std.proofs.Common.{◌≡◌, ◌+◌, inl, inr, refl, subst, take, true, ap, ◌∙◌, arith}
 use Rattle.std.specs.Prelude.{MatchOption}
 use Rattle.std.proofs.lemmas.List.{take_all}
 use Rattle.graphql_documents.proofs.ListLemmas.{more_is}
@@ -11,16 +11,17 @@ use Rattle.graphql_pair_merging.proofs.SettleLemmas.{settles_next, settles_nothi
 use Rattle.graphql_pair_merging.proofs.pairs.PairPass.look_by_keys.Goals as goal
 
 pub loop-key-init : goal.loop-key-init
-loop-key-init c =
+loop-key-init g c =
     record {
       settles = λ fields numbers grouped named.
           settles_nothing c.args.self.now.schema.now (pass_of c.args.self.now.pass) fields (λ x y. Both fields x y × (is_among ResponseKey (take 0 c.args.keys.now) x ≡ true)) (lists_at c.args.waiting.now.items)
           (λ x y p put. none_among ResponseKey x p.1);
       most = refl;
+      cost = omega arith;
     }
 
 pub returns-in-Some-clause-found : goal.returns-in-Some-clause-found
-returns-in-Some-clause-found c fields numbers grouped named =
+returns-in-Some-clause-found g c fields numbers grouped named =
     let schema = c.args.self.now.schema.now in
     let pass = pass_of c.args.self.now.pass in
     subst (λ o. MatchOption o
@@ -28,7 +29,7 @@ returns-in-Some-clause-found c fields numbers grouped named =
     c.in-Some.is (c.in_ok-conflict.ensures.found fields numbers grouped)
 
 pub loop-key-preserved : goal.loop-key-preserved
-loop-key-preserved c = record {
+loop-key-preserved g c = record {
   settles = λ fields numbers grouped named.
       let schema = c.args.self.now.schema.now in
       let pass = pass_of c.args.self.now.pass in
@@ -46,10 +47,11 @@ loop-key-preserved c = record {
         | inr here ↦ inr (p.0, here)
       ]);
   most = c.look_under_name.ensures.most ∙ c.loop-key.invariant.most;
+  cost = omega (arith, c.loop-key.invariant.cost, c.take.ensures, c.look_under_name.ensures.cost);
 }
 
 pub returns-clause-found : goal.returns-clause-found
-returns-clause-found c fields numbers grouped named =
+returns-clause-found g c fields numbers grouped named =
     let names = c.args.keys.now in
     settles_words c.args.self.now.schema.now (pass_of c.args.self.now.pass) fields (λ x y. Both fields x y × (is_among ResponseKey (take c.loop-key.key-index names) x ≡ true)) (Both fields) (lists_at c.args.waiting.now.items)
     (lists_at c.loop-key.waiting.items)

@@ -1,4 +1,4 @@
-use Rattle.std.proofs.Common.{Contains, ◌≡◌, ◌+◌, inl, inr, refl, subst, take, true, ap, ◌∙◌}
+use Rattle.std.proofs.Common.{Contains, ◌≡◌, ◌+◌, inl, inr, refl, subst, take, true, ap, ◌∙◌, arith}
 use Rattle.std.specs.Prelude.{MatchOption}
 use Rattle.std.proofs.lemmas.List.{take_all}
 use Rattle.graphql_documents.proofs.ListLemmas.{more_is}
@@ -16,17 +16,18 @@ use Rattle.graphql_pair_merging.proofs.TurnLemmas.{in_turn}
 use Rattle.graphql_pair_merging.proofs.pairs.PairPass.look_by_parents.Goals as goal
 
 pub loop-parent-init : goal.loop-parent-init
-loop-parent-init c =
+loop-parent-init g c =
     let schema = c.args.self.now.schema.now in
     record {
       settles = λ fields key grouped named.
           settles_nothing schema (pass_of c.args.self.now.pass) fields (λ x y. Both fields x y × IsInTurn schema x y × (is_among ParentType (take 0 c.args.parents.now) x ≡ true)) (lists_at c.args.waiting.now.items)
           (λ x y p put. none_among ParentType x p.2);
       most = refl;
+      cost = omega arith;
     }
 
 pub returns-in-Some-clause-found : goal.returns-in-Some-clause-found
-returns-in-Some-clause-found c fields key grouped named =
+returns-in-Some-clause-found g c fields key grouped named =
     let schema = c.args.self.now.schema.now in
     let pass = pass_of c.args.self.now.pass in
     subst (λ o. MatchOption o
@@ -34,7 +35,7 @@ returns-in-Some-clause-found c fields key grouped named =
     c.in-Some.is (c.in_ok-conflict.ensures.found fields key grouped named)
 
 pub loop-parent-preserved : goal.loop-parent-preserved
-loop-parent-preserved c = record {
+loop-parent-preserved g c = record {
   settles = λ fields key grouped named.
       let schema = c.args.self.now.schema.now in
       let pass = pass_of c.args.self.now.pass in
@@ -52,10 +53,11 @@ loop-parent-preserved c = record {
         | inr here ↦ inr (p.0, p.1, here)
       ]);
   most = c.look_from_parent.ensures.most ∙ c.loop-parent.invariant.most;
+  cost = omega (arith, c.loop-parent.invariant.cost, c.take.ensures, c.look_from_parent.ensures.cost);
 }
 
 pub returns-clause-found : goal.returns-clause-found
-returns-clause-found c fields key grouped named =
+returns-clause-found g c fields key grouped named =
     let schema = c.args.self.now.schema.now in
     let pass = pass_of c.args.self.now.pass in
     let names = take c.loop-parent.parent-index c.args.parents.now in

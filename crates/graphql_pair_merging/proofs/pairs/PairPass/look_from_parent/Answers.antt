@@ -13,7 +13,7 @@ use Rattle.graphql_pair_merging.proofs.TurnLemmas.{others_alike}
 use Rattle.graphql_pair_merging.proofs.pairs.PairPass.look_from_parent.Goals as goal
 
 pub returns-in_default-clause-found : goal.returns-in_default-clause-found
-returns-in_default-clause-found c fields key grouped named =
+returns-in_default-clause-found g c fields key grouped named =
     let schema = c.args.self.now.schema.now in
     let name = c.args.parent.now in
     let none : [] ≡ filter (has_name ParentType name) fields = ap fields_in c.in_default.ensures.value ∙ grouped name in
@@ -21,7 +21,7 @@ returns-in_default-clause-found c fields key grouped named =
     (λ x y p put. none_stands x (subst (λ l. Contains l x) (sym none) (kept_by_filter (has_name ParentType name) fields x p.0.0 p.2)))
 
 pub returns-then-may_overlap_others-clause-found : goal.returns-then-may_overlap_others-clause-found
-returns-then-may_overlap_others-clause-found c fields key grouped named =
+returns-then-may_overlap_others-clause-found g c fields key grouped named =
     let schema = c.args.self.now.schema.now in
     let pass = pass_of c.args.self.now.pass in
     let name = c.args.parent.now in
@@ -31,7 +31,7 @@ returns-then-may_overlap_others-clause-found c fields key grouped named =
     (lists_at c.args.waiting.now.items) (lists_at c.look_with_parents.new.waiting.items) (λ x y p put. (into_group ParentType fields group is x p.0.0 p.2, p.0.1)) (c.look_with_parents.ensures.found fields key grouped is named)
 
 pub returns-clause-found : goal.returns-clause-found
-returns-clause-found c fields key grouped named =
+returns-clause-found g c fields key grouped named =
     let schema = c.args.self.now.schema.now in
     let pass = pass_of c.args.self.now.pass in
     let name = c.args.parent.now in

@@ -10,7 +10,7 @@ use Rattle.graphql_pair_merging.proofs.SettleLemmas.{both_in_group, of_group, on
 use Rattle.graphql_pair_merging.proofs.pairs.PairPass.look_under_name.Goals as goal
 
 pub returns-in-Some-clause-found : goal.returns-in-Some-clause-found
-returns-in-Some-clause-found c fields numbers grouped =
+returns-in-Some-clause-found g c fields numbers grouped =
     let schema = c.args.self.now.schema.now in
     let pass = pass_of c.args.self.now.pass in
     let name = c.args.key.now in
@@ -21,7 +21,7 @@ returns-in-Some-clause-found c fields numbers grouped =
     (c.look_under_key.ensures.found (record { one_key = one_name ResponseKey fields group is; numbers = numbers_among fields group (of_group ResponseKey fields group is) numbers }))
 
 pub returns-in-None-clause-found : goal.returns-in-None-clause-found
-returns-in-None-clause-found c fields numbers grouped =
+returns-in-None-clause-found g c fields numbers grouped =
     let name = c.args.key.now in
     let none : [] ≡ filter (has_name ResponseKey name) fields = ap fields_in c.in-None.ensures.value ∙ grouped name in
     settles_nothing c.args.self.now.schema.now (pass_of c.args.self.now.pass) fields (λ x y. Both fields x y × (has_name ResponseKey name x ≡ true)) (lists_at c.args.waiting.now.items)

@@ -9,7 +9,7 @@ use Rattle.graphql_pair_merging.proofs.SettleLemmas.{into_group, settled_words, 
 use Rattle.graphql_pair_merging.proofs.pairs.PairPass.look_with_parent.Goals as goal
 
 pub returns-in-Some-clause-found : goal.returns-in-Some-clause-found
-returns-in-Some-clause-found c fields key grouped first_is =
+returns-in-Some-clause-found g c fields key grouped first_is =
     let schema = c.args.self.now.schema.now in
     let pass = pass_of c.args.self.now.pass in
     let first = c.args.first.now in
@@ -20,7 +20,7 @@ returns-in-Some-clause-found c fields key grouped first_is =
     (lists_at c.look_at_two_parents.new.waiting.items) (λ x y p put. (p.0, into_group ParentType fields group is y p.1.0 p.1.1)) (c.look_at_two_parents.ensures.found fields key first_is is)
 
 pub returns-in-None-clause-found : goal.returns-in-None-clause-found
-returns-in-None-clause-found c fields key grouped first_is =
+returns-in-None-clause-found g c fields key grouped first_is =
     let first = c.args.first.now in
     let name = c.args.parent.now in
     let none : [] ≡ filter (has_name ParentType name) fields = ap fields_in c.in-None.ensures.value ∙ grouped name in

@@ -1,4 +1,4 @@
-use Rattle.std.proofs.Common.{◌≡◌, ◌+◌, Contains, inl, inr, refl, subst, take, true, ap, ◌∙◌}
+use Rattle.std.proofs.Common.{◌≡◌, ◌+◌, Contains, inl, inr, refl, subst, take, true, ap, ◌∙◌, arith}
 use Rattle.std.specs.Prelude.{MatchOption}
 use Rattle.std.proofs.lemmas.List.{take_all}
 use Rattle.graphql_documents.proofs.ListLemmas.{more_is}
@@ -11,16 +11,17 @@ use Rattle.graphql_pair_merging.proofs.SettleLemmas.{settles_next, settles_nothi
 use Rattle.graphql_pair_merging.proofs.pairs.PairPass.look_with_parents.Goals as goal
 
 pub loop-parent-init : goal.loop-parent-init
-loop-parent-init c =
+loop-parent-init g c =
     record {
       settles = λ fields key grouped first_is named.
           settles_nothing c.args.self.now.schema.now (pass_of c.args.self.now.pass) fields (λ x y. Contains c.args.first.now x × (Contains fields y × (is_among ParentType (take 0 c.args.parents.now) y ≡ true)))
           (lists_at c.args.waiting.now.items) (λ x y p put. none_among ParentType y p.1.1);
       most = refl;
+      cost = omega arith;
     }
 
 pub returns-in-Some-clause-found : goal.returns-in-Some-clause-found
-returns-in-Some-clause-found c fields key grouped first_is named =
+returns-in-Some-clause-found g c fields key grouped first_is named =
     let schema = c.args.self.now.schema.now in
     let pass = pass_of c.args.self.now.pass in
     subst (λ o. MatchOption o
@@ -29,7 +30,7 @@ returns-in-Some-clause-found c fields key grouped first_is named =
     c.in-Some.is (c.in_ok-conflict.ensures.found fields key grouped first_is)
 
 pub loop-parent-preserved : goal.loop-parent-preserved
-loop-parent-preserved c = record {
+loop-parent-preserved g c = record {
   settles = λ fields key grouped first_is named.
       let schema = c.args.self.now.schema.now in
       let pass = pass_of c.args.self.now.pass in
@@ -48,10 +49,11 @@ loop-parent-preserved c = record {
         | inr here ↦ inr (p.0, (p.1.0, here))
       ]);
   most = c.look_with_parent.ensures.most ∙ c.loop-parent.invariant.most;
+  cost = omega (arith, c.loop-parent.invariant.cost, c.take.ensures, c.look_with_parent.ensures.cost);
 }
 
 pub returns-clause-found : goal.returns-clause-found
-returns-clause-found c fields key grouped first_is named =
+returns-clause-found g c fields key grouped first_is named =
     let first = c.args.first.now in
     let names = c.args.parents.now in
     settles_words c.args.self.now.schema.now (pass_of c.args.self.now.pass) fields (λ x y. Contains first x × (Contains fields y × (is_among ParentType (take c.loop-parent.parent-index names) y ≡ true)))

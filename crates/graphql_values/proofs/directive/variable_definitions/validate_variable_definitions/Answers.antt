@@ -1,4 +1,4 @@
-use Rattle.std.proofs.Common.{take, subst, rules, arith}
+use Rattle.std.proofs.Common.{take, subst, arith}
 use Rattle.std.specs.Option.{option_copied}
 use Rattle.std.proofs.lemmas.List.{take_all}
 use Rattle.std.proofs.lemmas.List.Elements.{All-nil}
@@ -14,7 +14,7 @@ use Rattle.graphql_values.proofs.directive.variable_definitions.validate_variabl
 pub loop-variable-init : goal.loop-variable-init
 loop-variable-init c = record {
   reported = holds _ _ _ (record { each = All-nil _; distinct = λ i j d lt h. absurd (let none : ⊥ = omega arith in none) });
-  remembered = record { look_up = λ name. search rules };
+  remembered = c.with_hasher-seen.ensures;
 }
 
 pub returns-in_err-validate_variable_definition : goal.returns-in_err-validate_variable_definition

@@ -7,10 +7,10 @@ use Rattle.graphql_specification.specs.MergedSets.{MeetingFieldsAgree}
 use Rattle.graphql_pair_merging.specs.Meetings.{IsMetConflict}
 use Rattle.graphql_pair_merging.specs.NumberedSets.{operation_sets}
 use Rattle.graphql_pair_merging.proofs.ReportedLemmas.{reported_decides, reported_truth, silent_decides}
-use Rattle.graphql_pair_merging.proofs.merging.merge_by_pairs_within.Goals as goal
+use Rattle.graphql_pair_merging.proofs.merging.merge_by_pairs_in_steps.Goals as goal
 
 pub report-requires : goal.report-requires
-report-requires c =
+report-requires g c =
     let schema = c.args.schema.now in
     let F = fragments_of c.args.document.now in
     let sets = operation_sets c.args.operations.now in
@@ -18,7 +18,7 @@ report-requires c =
     (schema, m.pass, m.disagree)
 
 pub returns-in_ok-report-in-Ok-Some-clause-decides : goal.returns-in_ok-report-in-Ok-Some-clause-decides
-returns-in_ok-report-in-Ok-Some-clause-decides c _ =
+returns-in_ok-report-in-Ok-Some-clause-decides g c _ =
     let schema = c.args.schema.now in
     let F = fragments_of c.args.document.now in
     let operations = c.args.operations.now in
@@ -29,7 +29,7 @@ returns-in_ok-report-in-Ok-Some-clause-decides c _ =
     (c.report.ensures schema m.pass m.disagree))
 
 pub returns-in_err-report-in-Ok-Some-clause-truth : goal.returns-in_err-report-in-Ok-Some-clause-truth
-returns-in_err-report-in-Ok-Some-clause-truth c =
+returns-in_err-report-in-Ok-Some-clause-truth g c =
     let schema = c.args.schema.now in
     let F = fragments_of c.args.document.now in
     let operations = c.args.operations.now in
@@ -39,7 +39,7 @@ returns-in_err-report-in-Ok-Some-clause-truth c =
     (c.report.ensures schema m.pass m.disagree)
 
 pub returns-in_ok-report-in-Ok-Some-clause-truth : goal.returns-in_ok-report-in-Ok-Some-clause-truth
-returns-in_ok-report-in-Ok-Some-clause-truth c =
+returns-in_ok-report-in-Ok-Some-clause-truth g c =
     let schema = c.args.schema.now in
     let F = fragments_of c.args.document.now in
     let operations = c.args.operations.now in
@@ -49,7 +49,7 @@ returns-in_ok-report-in-Ok-Some-clause-truth c =
     (c.report.ensures schema m.pass m.disagree)
 
 pub returns-in-Ok-None-clause-decides : goal.returns-in-Ok-None-clause-decides
-returns-in-Ok-None-clause-decides c _ =
+returns-in-Ok-None-clause-decides g c _ =
     let schema = c.args.schema.now in
     let F = fragments_of c.args.document.now in
     let operations = c.args.operations.now in
