@@ -11,21 +11,24 @@ const LEAST_KEPT: usize = 1_000;
 /// How many bytes the messages of an answer may have, for each report that is kept.
 const BYTES_FOR_EACH: usize = 1_000;
 
-/// How many bytes the messages of a document from a file may have, 256 MiB: a name of a megabyte may be in each of thousands of reports.
-const MOST_BYTES: usize = 1 << 28;
+/// How many reports of each kind are kept of a document or a schema from files: a few kilobytes of text may break rules millions of times.
+const MOST_REPORTS: usize = 250_000;
 
-/// The bounds of a schema from files: all reports are kept.
+/// How many bytes the messages of these reports may have, 64 MiB: a name of a megabyte may be in each of thousands.
+const MOST_BYTES: usize = 1 << 26;
+
+/// The bounds of a schema from files: the first 250,000 reports are kept, if their messages have at most 64 MiB together.
 pub const OF_SCHEMA: Bounds = Bounds {
     tokens: usize::MAX,
     depth: 500,
     reach: 4,
     work: usize::MAX,
-    reports: usize::MAX,
-    report_bytes: usize::MAX,
+    reports: MOST_REPORTS,
+    report_bytes: MOST_BYTES,
 };
 
-/// The bounds of documents from files, as the command line says; a document may have any number of tokens, and all reports are
-/// kept whose messages have at most 256 MiB together.
+/// The bounds of documents from files, as the command line says. A document may have any number of tokens. The first 250,000
+/// reports are kept, if their messages have at most 64 MiB together.
 pub fn bounds_of(limits: Limits) -> Bounds
     ensures depth { result.depth ≡ limits.depth }
     ensures reach { result.reach ≡ limits.reach }
@@ -36,7 +39,7 @@ pub fn bounds_of(limits: Limits) -> Bounds
         depth: limits.depth,
         reach: limits.reach,
         work: limits.work,
-        reports: usize::MAX,
+        reports: MOST_REPORTS,
         report_bytes: MOST_BYTES,
     }
 }
