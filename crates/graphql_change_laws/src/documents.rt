@@ -27,8 +27,8 @@ pub fn kept_documents_stay_valid()
         DocumentBuilds (Some new) tree × ((e : ExecutableDocument) → DocumentSays (Some new) tree e → EveryRuleHolds (Some new) e) }
 {}
 
-/// A document in which no two fields come together in a response stays valid by less: `KeepsLoneFieldsValid` asks nothing for the
-/// merging of fields.
+/// A document in which no two fields come together in a response, except equal leaves, stays valid by less:
+/// `KeepsLoneFieldsValid` asks nothing for the merging of fields.
 ///
 /// Specification: 5 Validation, 5.3.2 Field Selection Merging.
 pub fn kept_documents_with_lone_fields_stay_valid()

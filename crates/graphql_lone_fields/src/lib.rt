@@ -1,4 +1,4 @@
-//! Operations in which no two fields come together in a response: there is nothing to merge in them.
+//! Operations in which nothing has to be merged: each response key is that of one field, or of equal leaves.
 #![tactic(auto)]
 
 mod counted_expansion;

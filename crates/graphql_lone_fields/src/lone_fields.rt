@@ -1,4 +1,4 @@
-//! Whether no two fields of operations come together in a response.
+//! Whether nothing has to be merged in operations.
 
 ghost use Rattle.std.specs.Prelude.{◌≡◌, ◌+◌, ◌*◌, ◌<◌, ◌≤◌, ◌∷◌, [], All, IfOk, IsTrue, length};
 ghost use Rattle.graphql_documents.specs.Selections.{fragments_of};
@@ -8,7 +8,7 @@ ghost use Rattle.graphql_lone_fields.specs.CountedSteps.{Paid};
 ghost use Rattle.graphql_lone_fields.specs.LoneFields.{HasLoneFields, HasLoneFieldsWithin};
 
 use crate::counted_expansion::expand_within;
-use crate::keys::have_different_keys;
+use crate::keys::have_lone_keys;
 use graphql_documents::documents::{ExecutableDocument, Operation, SelectionSet};
 use graphql_field_conflicts::field_selections::FieldSelection;
 use graphql_nodes::{Node, ValidationError};
@@ -20,13 +20,14 @@ use std::sync::ledger::{Blank, Ledger};
 /// How many sets may be below one another.
 const LEVELS: usize = 100;
 
-/// Whether it is found that in none of these operations two fields come together in a response: each response key of an
-/// operation's set, and of the set of each field on the way down, is that of one field alone. Then all fields can merge
-/// (`lone_fields_can_merge`), and nothing has to be put together or compared.
+/// Whether it is found that in none of these operations fields have to be merged: each response key of an operation's set, and
+/// of the set of each field on the way down, is that of one field, or of equal leaves (`AreEqualLeaves`: fields of one name and
+/// one type, without arguments and selections). Then all fields can merge (`lone_fields_can_merge`).
 ///
-/// The search visits at most `most` selections, counting each visit, and enters at most 100 nested sets that select something
-/// (`depth`). If an operation needs more of either, the answer is no. The only error is a failed allocation. `have_lone_fields_in_steps`, which this calls, bounds
-/// the number of steps.
+/// In a set of more than 16 fields, those of its fragments counted, equal leaves are not accepted. The search visits at most `most`
+/// selections, counting each visit, and enters at most 100 nested sets that select something (`depth`). If an operation needs
+/// more of either, the answer is no. The only error is a failed allocation. `have_lone_fields_in_steps`, which this calls,
+/// bounds the number of steps.
 ///
 /// Specification: 5.3.2 Field Selection Merging.
 pub fn have_lone_fields(
@@ -61,7 +62,8 @@ fn have_lone_fields_uncounted<L: Ledger>(
 
 /// Does what `have_lone_fields` does, and counts its steps: at most twenty for each selection that it may visit, and three for
 /// each operation. A step is a visit of a selection, of a set in the queue, of a field or of the set of a field, a comparison of
-/// two response keys, or the insertion of one.
+/// two fields, or the insertion of a response key. Two fields are compared by their keys, and if these are the same, also by what
+/// they hold of arguments and selections, and by their names and types.
 pub fn have_lone_fields_in_steps<L: Ledger>(
     alloc: Global,
     document: &ExecutableDocument,
@@ -96,7 +98,7 @@ struct LoneFieldSearch<'doc> {
 }
 
 impl<'doc> LoneFieldSearch<'doc> {
-    /// Whether each response key of the set, and of the sets below, is that of one field alone.
+    /// Whether each response key of the set, and of the sets below, is that of one field, or of equal leaves.
     #[cycle(search)]
     fn has_lone_fields<L: Ledger>(
         &mut self,
@@ -116,13 +118,13 @@ impl<'doc> LoneFieldSearch<'doc> {
         let Some(fields) = expand_within(self.alloc, fragments, set, &mut self.left, steps)? else {
             return Ok(false);
         };
-        if !have_different_keys(self.alloc, self.document.hash_seed(), &fields, steps)? {
+        if !have_lone_keys(self.alloc, self.document.hash_seed(), &fields, steps)? {
             return Ok(false);
         }
         self.have_lone_fields_below(&fields, levels - 1, steps)
     }
 
-    /// Whether, in the set of each of these fields and in the sets below, each response key is that of one field alone.
+    /// Whether, in the set of each of these fields and in the sets below, each response key is that of one field, or of equal leaves.
     #[cycle(search)]
     fn have_lone_fields_below<L: Ledger>(
         &mut self,
@@ -143,7 +145,8 @@ impl<'doc> LoneFieldSearch<'doc> {
         Ok(true)
     }
 
-    /// Whether, in the set of a field and in the sets below, each response key is that of one field alone. The set may be empty.
+    /// Whether, in the set of a field and in the sets below, each response key is that of one field, or of equal leaves. The set may
+    /// be empty.
     #[cycle(search)]
     fn has_lone_fields_below<L: Ledger>(
         &mut self,

@@ -200,7 +200,7 @@ fn validate_with_schema(
     validate_and_merge(diagnostics, schema, document, &operations, work)
 }
 
-/// Whether it is found that no fields come together in these operations. It is sought where the work of merging is bounded.
+/// Whether it is found that no fields have to be merged in these operations. It is sought where the work of merging is bounded.
 fn have_nothing_to_merge(
     alloc: Global,
     document: &ExecutableDocument,
