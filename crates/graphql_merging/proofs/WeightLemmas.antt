@@ -142,6 +142,7 @@ put [] name fields few =
 put (e ∷ es) name fields few = at (same_name name e.0) few (put es name fields) where
   whole : weight (fields_under (e ∷ es)) ≡ 1 + length e.1 + weight (fields_under es)
   whole = sum_by-cons (λ l. 1 + length l) e.1 (fields_under es)
+
   at : (b : Bool) → length fields ≤ 1 + length (unwrap_or (cond b (Some e.1) (lookup (same_name name) es)) []) →
       (length fields ≤ 1 + length (unwrap_or (lookup (same_name name) es) []) → weight (fields_under (insert_entry same_name es name fields)) ≤ weight (fields_under es) + 2) →
       weight (fields_under (cond b ((e.0, fields) ∷ es) (e ∷ insert_entry same_name es name fields))) ≤ weight (fields_under (e ∷ es)) + 2

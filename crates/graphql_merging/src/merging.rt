@@ -284,27 +284,13 @@ impl<'s, 'doc> FieldsInSetCanMerge<'s, 'doc> {
             numbered: &self.numbered,
             pass: Pass::Shapes,
         };
-        shapes.examine_set(
-            diagnostics,
-            &mut self.shapes,
-            &mut depth,
-            work,
-            steps,
-            set,
-        )?;
+        shapes.examine_set(diagnostics, &mut self.shapes, &mut depth, work, steps, set)?;
         let fields = MergingPass {
             schema: self.schema,
             numbered: &self.numbered,
             pass: Pass::NamesAndArguments,
         };
-        fields.examine_set(
-            diagnostics,
-            &mut self.fields,
-            &mut depth,
-            work,
-            steps,
-            set,
-        )?;
+        fields.examine_set(diagnostics, &mut self.fields, &mut depth, work, steps, set)?;
         Ok(depth.high() > FIELD_DEPTH_LIMIT)
     }
 }

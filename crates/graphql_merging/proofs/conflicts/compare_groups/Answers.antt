@@ -77,16 +77,31 @@ loop-group-preserved g c =
       truth = kept_then c.loop-group.invariant.truth
           (whole schema pass groups group _ _ (i, c.loop-group-test.true, sym c.group-item.is)
           (subst (λ l. KeepsReports (IsConflictAmong schema pass (listed l ∷ [])) mid new) c.deref.ensures.value c.compare_group.ensures.truth));
-      steps = omega (arith, c.loop-group.invariant.steps, c.take.ensures, c.compare_group.ensures.steps, ap length c.deref.ensures.value,
-          weight_more groups i group c.loop-group-test.true c.group-item.is, arguments_more c.args.pass groups i group c.loop-group-test.true c.group-item.is,
-          ap (λ l. compared_in c.args.pass (listed l)) c.deref.ensures.value);
+      steps = omega (
+        arith,
+        c.loop-group.invariant.steps,
+        c.take.ensures,
+        c.compare_group.ensures.steps,
+        ap length c.deref.ensures.value,
+        weight_more groups i group c.loop-group-test.true c.group-item.is,
+        arguments_more c.args.pass groups i group c.loop-group-test.true c.group-item.is,
+        ap (λ l. compared_in c.args.pass (listed l)) c.deref.ensures.value,
+      );
     }
 
 pub returns-in_err-compare_group-clause-steps : goal.returns-in_err-compare_group-clause-steps
 returns-in_err-compare_group-clause-steps g c =
     let groups = c.args.groups.now in
     let i = c.loop-group.group-index in
-    omega (arith, c.loop-group.invariant.steps, c.take.ensures, c.compare_group.ensures.steps, ap length c.deref.ensures.value,
-    weight_more groups i c.group-item.result c.loop-group-test.true c.group-item.is, weight_within groups (i + 1),
-    arguments_more c.args.pass groups i c.group-item.result c.loop-group-test.true c.group-item.is, arguments_within c.args.pass groups (i + 1),
-    ap (λ l. compared_in c.args.pass (listed l)) c.deref.ensures.value)
+    omega (
+      arith,
+      c.loop-group.invariant.steps,
+      c.take.ensures,
+      c.compare_group.ensures.steps,
+      ap length c.deref.ensures.value,
+      weight_more groups i c.group-item.result c.loop-group-test.true c.group-item.is,
+      weight_within groups (i + 1),
+      arguments_more c.args.pass groups i c.group-item.result c.loop-group-test.true c.group-item.is,
+      arguments_within c.args.pass groups (i + 1),
+      ap (λ l. compared_in c.args.pass (listed l)) c.deref.ensures.value,
+    )

@@ -38,17 +38,19 @@ returns-in_ok-collect-in-Shapes-clause-spare g c bounded =
     subst (λ known. weight (fields_under known) ≤ 2 * length fields) (sym c.in_ok-fields_by_key.ensures.found) (weight_by_keys fields) in
     let many = length-map c.args.fields.now selection_of in
     let items : c.in_ok-collect-in-Shapes.field-0.items ≡ values found = search rules in
-    let same = ap (λ l. weight (lists_of l)) items ∙ ap weight (lists_viewed found.entries) in
-    (bounded, omega (
-      arith,
-      c.in_ok-fields_by_key.ensures.steps,
-      c.take-in-Shapes.ensures,
-      c.len.ensures,
-      few,
-      many,
-      same,
-      names_within found.entries,
-    ))
+    let same = ap (λ l. weight (lists_of l)) items ∙ ap weight (lists_viewed found.entries) in (
+      bounded,
+      omega (
+        arith,
+        c.in_ok-fields_by_key.ensures.steps,
+        c.take-in-Shapes.ensures,
+        c.len.ensures,
+        few,
+        many,
+        same,
+        names_within found.entries,
+      ),
+    )
 
 pub returns-in-NamesAndArguments-clause-spare : goal.returns-in-NamesAndArguments-clause-spare
 returns-in-NamesAndArguments-clause-spare g c =
@@ -58,7 +60,7 @@ returns-in-NamesAndArguments-clause-spare g c =
     subst (λ known. weight (fields_under known) ≤ 2 * length fields) (sym c.in_ok-fields_by_key.ensures.found) (weight_by_keys fields) in
     let many = length-map c.args.fields.now selection_of in
     let Spares = λ (before : ℕ) (groups : Vec (Vec NumberedField Global) Global).
-        Pays c.args.work.now c.groups_by_types.new.work before (c.groups_by_types.new.steps + 4 * weight (lists_of groups.items)) 0 in
+    Pays c.args.work.now c.groups_by_types.new.work before (c.groups_by_types.new.steps + 4 * weight (lists_of groups.items)) 0 in
     IfOk-weaker c.groups_by_types.result (Spares (c.numbered_by_key.new.steps + 11 * weight (fields_under (named_fields found.entries))))
     (Spares (c.args.steps.now + 23 * length c.args.fields.now))
     (λ groups spare bounded. let paid = spare bounded in (paid.0, omega (arith, c.in_ok-fields_by_key.ensures.steps, paid.1, few, many)))
@@ -80,16 +82,18 @@ returns-in_err-collect-in-Shapes-clause-cost g c bounded =
     let fields = listed c.args.fields.now in
     let few : weight (fields_under (named_fields found.entries)) ≤ 2 * length fields =
     subst (λ known. weight (fields_under known) ≤ 2 * length fields) (sym c.in_ok-fields_by_key.ensures.found) (weight_by_keys fields) in
-    let many = length-map c.args.fields.now selection_of in
-    (bounded, omega (
-      arith,
-      c.in_ok-fields_by_key.ensures.steps,
-      c.take-in-Shapes.ensures,
-      c.len.ensures,
-      few,
-      many,
-      names_within found.entries,
-    ))
+    let many = length-map c.args.fields.now selection_of in (
+      bounded,
+      omega (
+        arith,
+        c.in_ok-fields_by_key.ensures.steps,
+        c.take-in-Shapes.ensures,
+        c.len.ensures,
+        few,
+        many,
+        names_within found.entries,
+      ),
+    )
 
 pub returns-in_ok-collect-in-Shapes-clause-cost : goal.returns-in_ok-collect-in-Shapes-clause-cost
 returns-in_ok-collect-in-Shapes-clause-cost g c bounded =
@@ -97,13 +101,15 @@ returns-in_ok-collect-in-Shapes-clause-cost g c bounded =
     let fields = listed c.args.fields.now in
     let few : weight (fields_under (named_fields found.entries)) ≤ 2 * length fields =
     subst (λ known. weight (fields_under known) ≤ 2 * length fields) (sym c.in_ok-fields_by_key.ensures.found) (weight_by_keys fields) in
-    let many = length-map c.args.fields.now selection_of in
-    (bounded, omega (
-      arith,
-      c.in_ok-fields_by_key.ensures.steps,
-      c.take-in-Shapes.ensures,
-      c.len.ensures,
-      few,
-      many,
-      names_within found.entries,
-    ))
+    let many = length-map c.args.fields.now selection_of in (
+      bounded,
+      omega (
+        arith,
+        c.in_ok-fields_by_key.ensures.steps,
+        c.take-in-Shapes.ensures,
+        c.len.ensures,
+        few,
+        many,
+        names_within found.entries,
+      ),
+    )

@@ -30,15 +30,17 @@ returns-then-is_empty-clause-numbered g c contents lists all =
 
 pub returns-then-is_empty-clause-spare : goal.returns-then-is_empty-clause-spare
 returns-then-is_empty-clause-spare g c bounded =
-    let found = c.in_ok-on_objects.field-0 in
-    (bounded, omega (
-      arith,
-      c.in_ok-on_objects.ensures.steps,
-      c.in_ok-on_objects.ensures.few,
-      ap weight c.in_ok-push_unless_empty.ensures.groups,
-      weight_unless_empty (lists_of c.args.groups.now.items) (listed found.on_abstract.items),
-      length-map found.on_abstract.items selection_of,
-    ))
+    let found = c.in_ok-on_objects.field-0 in (
+      bounded,
+      omega (
+        arith,
+        c.in_ok-on_objects.ensures.steps,
+        c.in_ok-on_objects.ensures.few,
+        ap weight c.in_ok-push_unless_empty.ensures.groups,
+        weight_unless_empty (lists_of c.args.groups.now.items) (listed found.on_abstract.items),
+        length-map found.on_abstract.items selection_of,
+      ),
+    )
 
 pub returns-clause-spare : goal.returns-clause-spare
 returns-clause-spare g c bounded =

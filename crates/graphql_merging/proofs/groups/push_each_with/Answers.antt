@@ -35,28 +35,34 @@ loop-group-preserved g c = record {
         All-tail (IsGroupNumbered contents) c.in-Some.group c.next.new.self left,
       );
   unbounded = λ before. (c.count.ensures.unbounded (c.loop-group.invariant.unbounded before)).0;
-  grows = omega (arith, c.loop-group.invariant.grows, ap weight c.in_ok-push_with.ensures.groups,
-      weight_push (lists_of c.loop-group.groups.items) (listed c.in-Some.group.items ++ listed c.args.further.now));
+  grows = omega (
+    arith,
+    c.loop-group.invariant.grows,
+    ap weight c.in_ok-push_with.ensures.groups,
+    weight_push (lists_of c.loop-group.groups.items) (listed c.in-Some.group.items ++ listed c.args.further.now),
+  );
   cost = λ bounded.
       let before = c.loop-group.invariant.cost bounded in
       let spent = c.in_ok-count.ensures.spends before.0 in
       let old = lists_of c.loop-group.groups.items in
       let group = listed c.in-Some.group.items in
-      let further = listed c.args.further.now in
-      (spent.0, omega (
-        arith,
-        before.1,
-        spent.1,
-        c.take.ensures,
-        c.take-in-loop-group.ensures,
-        ap weight c.in_ok-push_with.ensures.groups,
-        weight_push old (group ++ further),
-        length-append group further,
-        length-map c.in-Some.group.items selection_of,
-        length-map c.args.further.now selection_of,
-        ap (λ l. weight (lists_of l)) c.in-Some.ensures.steps,
-        weight_first c.in-Some.group c.next.new.self,
-      ));
+      let further = listed c.args.further.now in (
+        spent.0,
+        omega (
+          arith,
+          before.1,
+          spent.1,
+          c.take.ensures,
+          c.take-in-loop-group.ensures,
+          ap weight c.in_ok-push_with.ensures.groups,
+          weight_push old (group ++ further),
+          length-append group further,
+          length-map c.in-Some.group.items selection_of,
+          length-map c.args.further.now selection_of,
+          ap (λ l. weight (lists_of l)) c.in-Some.ensures.steps,
+          weight_first c.in-Some.group c.next.new.self,
+        ),
+      );
 }
 
 pub returns-clause-numbered : goal.returns-clause-numbered
@@ -76,18 +82,20 @@ pub returns-in_err-push_with-clause-cost : goal.returns-in_err-push_with-clause-
 returns-in_err-push_with-clause-cost g c bounded =
     let before = c.loop-group.invariant.cost bounded in
     let spent = c.in_ok-count.ensures.spends before.0 in
-    let all = ap (λ l. weight (lists_of l)) (c.into_iter-group-iterator.ensures.into_iter_gives ∙ c.into_values-group-items.ensures.rest) ∙ ap weight (lists_viewed c.args.on_objects.entries) in
-    (spent.0, omega (
-      arith,
-      before.1,
-      spent.1,
-      c.take.ensures,
-      c.take-in-loop-group.ensures,
-      all,
-      c.loop-group.invariant.grows,
-      ap (λ l. weight (lists_of l)) c.in-Some.ensures.steps,
-      weight_first c.in-Some.group c.next.new.self,
-    ))
+    let all = ap (λ l. weight (lists_of l)) (c.into_iter-group-iterator.ensures.into_iter_gives ∙ c.into_values-group-items.ensures.rest) ∙ ap weight (lists_viewed c.args.on_objects.entries) in (
+      spent.0,
+      omega (
+        arith,
+        before.1,
+        spent.1,
+        c.take.ensures,
+        c.take-in-loop-group.ensures,
+        all,
+        c.loop-group.invariant.grows,
+        ap (λ l. weight (lists_of l)) c.in-Some.ensures.steps,
+        weight_first c.in-Some.group c.next.new.self,
+      ),
+    )
 
 pub returns-clause-spare : goal.returns-clause-spare
 returns-clause-spare g c bounded =

@@ -94,51 +94,55 @@ examine-returns-in_err-examine_below-clause-cost g t c bounded =
     let made = c.in_ok-groups.ensures.spare bounded in
     let counted = c.in_ok-count_arguments.ensures.spends made.0 in
     let before = c.loop-group.invariant.cost counted.0 in
-    let paid = c.examine_below.ensures.cost before.0 in
-    (paid.0, omega (
-      arith,
-      made.1,
-      c.take.ensures,
-      c.len.ensures ∙ c.args.list.fields.ok.0,
-      counted.1,
-      c.count_arguments.ensures.steps,
-      c.compare_groups.ensures.steps,
-      before.1,
-      c.take-in-loop-group.ensures,
-      paid.1,
-      ap length c.deref.ensures.value,
-      ap (λ l. weight (lists_of l)) c.deref-2.ensures.value,
-      ap (λ l. weight (lists_of l)) c.deref-3.ensures.value,
-      ap (λ l. sum_by (compared_in c.args.self.now.pass) (lists_of l)) c.deref-2.ensures.value,
-      ap (λ l. sum_by (compared_in c.args.self.now.pass) (lists_of l)) c.deref-3.ensures.value,
-      ap (λ l. weight (lists_of l)) c.deref-group-items.ensures.value,
-      ap length c.deref-in-loop-group.ensures.value,
-      weight_more groups i c.group-item.result c.loop-group-test.true c.group-item.is,
-      weight_within groups (i + 1),
-    ))
+    let paid = c.examine_below.ensures.cost before.0 in (
+      paid.0,
+      omega (
+        arith,
+        made.1,
+        c.take.ensures,
+        c.len.ensures ∙ c.args.list.fields.ok.0,
+        counted.1,
+        c.count_arguments.ensures.steps,
+        c.compare_groups.ensures.steps,
+        before.1,
+        c.take-in-loop-group.ensures,
+        paid.1,
+        ap length c.deref.ensures.value,
+        ap (λ l. weight (lists_of l)) c.deref-2.ensures.value,
+        ap (λ l. weight (lists_of l)) c.deref-3.ensures.value,
+        ap (λ l. sum_by (compared_in c.args.self.now.pass) (lists_of l)) c.deref-2.ensures.value,
+        ap (λ l. sum_by (compared_in c.args.self.now.pass) (lists_of l)) c.deref-3.ensures.value,
+        ap (λ l. weight (lists_of l)) c.deref-group-items.ensures.value,
+        ap length c.deref-in-loop-group.ensures.value,
+        weight_more groups i c.group-item.result c.loop-group-test.true c.group-item.is,
+        weight_within groups (i + 1),
+      ),
+    )
 
 pub examine-returns-clause-cost : goal.examine-returns-clause-cost
 examine-returns-clause-cost g t c bounded =
     let made = c.in_ok-groups.ensures.spare bounded in
     let counted = c.in_ok-count_arguments.ensures.spends made.0 in
-    let below = c.loop-group.invariant.cost counted.0 in
-    (below.0, omega (
-      arith,
-      made.1,
-      c.take.ensures,
-      c.len.ensures ∙ c.args.list.fields.ok.0,
-      counted.1,
-      c.count_arguments.ensures.steps,
-      c.compare_groups.ensures.steps,
-      below.1,
-      ap length c.deref.ensures.value,
-      ap (λ l. weight (lists_of l)) c.deref-2.ensures.value,
-      ap (λ l. weight (lists_of l)) c.deref-3.ensures.value,
-      ap (λ l. sum_by (compared_in c.args.self.now.pass) (lists_of l)) c.deref-2.ensures.value,
-      ap (λ l. sum_by (compared_in c.args.self.now.pass) (lists_of l)) c.deref-3.ensures.value,
-      ap (λ l. weight (lists_of l)) c.deref-group-items.ensures.value,
-      weight_within c.deref-group-items.result.now c.loop-group.group-index,
-    ))
+    let below = c.loop-group.invariant.cost counted.0 in (
+      below.0,
+      omega (
+        arith,
+        made.1,
+        c.take.ensures,
+        c.len.ensures ∙ c.args.list.fields.ok.0,
+        counted.1,
+        c.count_arguments.ensures.steps,
+        c.compare_groups.ensures.steps,
+        below.1,
+        ap length c.deref.ensures.value,
+        ap (λ l. weight (lists_of l)) c.deref-2.ensures.value,
+        ap (λ l. weight (lists_of l)) c.deref-3.ensures.value,
+        ap (λ l. sum_by (compared_in c.args.self.now.pass) (lists_of l)) c.deref-2.ensures.value,
+        ap (λ l. sum_by (compared_in c.args.self.now.pass) (lists_of l)) c.deref-3.ensures.value,
+        ap (λ l. weight (lists_of l)) c.deref-group-items.ensures.value,
+        weight_within c.deref-group-items.result.now c.loop-group.group-index,
+      ),
+    )
 
 pub examine-returns-clause-examines : goal.examine-returns-clause-examines
 examine-returns-clause-examines g t c =

@@ -36,11 +36,13 @@ returns-clause-spends g c bounded =
     let was : left_in c.loop-field.self + sum_by (λ y. n + count_of_arguments y) (listed (take i rest)) ≤ left_in c.args.self.now = before.1 in
     let first = selection_of c.in-Some.first.now in
     let few : count_of_arguments first ≤ n =
-    omega (arith, ap length c.deref-2.ensures.value, ap (λ (f : Field). length f.arguments.items) c.deref.ensures, c.units_of-of_first.ensures) in
-    (before.0, omega (
-      arith,
-      was,
-      ap (λ l. sum_by (λ y. n + count_of_arguments y) (listed l)) (take_all i rest c.loop-field-test.false),
-      arguments_at_most n first (listed rest) few,
-      ap (λ l. arguments_compared (listed l)) c.in-Some.ensures.cases.0,
-    ))
+    omega (arith, ap length c.deref-2.ensures.value, ap (λ (f : Field). length f.arguments.items) c.deref.ensures, c.units_of-of_first.ensures) in (
+      before.0,
+      omega (
+        arith,
+        was,
+        ap (λ l. sum_by (λ y. n + count_of_arguments y) (listed l)) (take_all i rest c.loop-field-test.false),
+        arguments_at_most n first (listed rest) few,
+        ap (λ l. arguments_compared (listed l)) c.in-Some.ensures.cases.0,
+      ),
+    )
