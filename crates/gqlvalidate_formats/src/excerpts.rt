@@ -9,7 +9,7 @@ const LEFT_OUT: &str = "...";
 /// A tab is shown as these spaces.
 const TAB: &str = "    ";
 
-/// The line that a part of a text begins on, cut around what of the part is on it.
+/// The line that a part of a text begins on, cut around what of the part is on it. Of a long line it has only what may be shown.
 #[derive(Clone, Copy)]
 pub struct Line<'a> {
     pub before: &'a str,
@@ -18,10 +18,12 @@ pub struct Line<'a> {
 }
 
 impl<'a> Line<'a> {
-    /// The line of the bytes from `start` up to `end`.
-    pub fn of(text: &'a str, start: usize, end: usize) -> Line<'a> {
-        let head = text.get(..start).unwrap_or("");
-        let rest = first_line(text.get(start..).unwrap_or(""));
+    /// The line of the bytes from `start` up to `end`: on either side of `start`, so many characters at most, and one more if there
+    /// are more, so that these are seen to be left out. A line may be as long as its text, and many parts may begin on it.
+    pub fn of(text: &'a str, start: usize, end: usize, most: usize) -> Line<'a> {
+        let few = most.saturating_add(1);
+        let head = last_characters(text.get(..start).unwrap_or(""), few);
+        let rest = first_line(first_characters(text.get(start..).unwrap_or(""), few));
         let marked = rest.get(..end.saturating_sub(start)).unwrap_or(rest);
         Line {
             before: last_line(head),

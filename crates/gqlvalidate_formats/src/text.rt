@@ -198,8 +198,8 @@ fn shown_line(
     columns: usize,
 ) -> Result<ShownLine, AllocError> {
     let start = located.span.start as usize;
-    let line = Line::of(located.text, start, located.span.end as usize);
     let room = columns.saturating_sub(MARGIN).max(LEAST_SHOWN);
+    let line = Line::of(located.text, start, located.span.end as usize, room);
     let marked = shown_beginning(alloc, line.marked, room)?;
     let room = room.saturating_sub(line.marked.chars().count());
     let before = shown_end(alloc, line.before, room)?;
