@@ -14,10 +14,10 @@ const BYTES_FOR_EACH: usize = 1_000;
 /// How many reports of each kind are kept of a document or a schema from files: a few kilobytes of text may break rules millions of times.
 const MOST_REPORTS: usize = 250_000;
 
-/// How many bytes the messages of these reports may have, 64 MiB: a name of a megabyte may be in each of thousands.
-const MOST_BYTES: usize = 1 << 26;
+/// How many bytes the messages of these reports may have, 16 MiB: a name of a megabyte may be in each of thousands.
+const MOST_BYTES: usize = 1 << 24;
 
-/// The bounds of a schema from files: the first 250,000 reports are kept, if their messages have at most 64 MiB together.
+/// The bounds of a schema from files: the first 250,000 reports are kept, if their messages have at most 16 MiB together.
 pub const OF_SCHEMA: Bounds = Bounds {
     tokens: usize::MAX,
     depth: 500,
@@ -28,7 +28,7 @@ pub const OF_SCHEMA: Bounds = Bounds {
 };
 
 /// The bounds of documents from files, as the command line says. A document may have any number of tokens. The first 250,000
-/// reports are kept, if their messages have at most 64 MiB together.
+/// reports are kept, if their messages have at most 16 MiB together.
 pub fn bounds_of(limits: Limits) -> Bounds
     ensures depth { result.depth ≡ limits.depth }
     ensures reach { result.reach ≡ limits.reach }
