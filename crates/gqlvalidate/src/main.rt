@@ -6,8 +6,6 @@ mod configured;
 mod explain;
 mod schemas;
 mod snapshots;
-#[cfg(test)]
-mod tests;
 mod watch;
 
 use command::run;

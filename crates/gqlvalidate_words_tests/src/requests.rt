@@ -1,6 +1,6 @@
 //! The command line: what words ask for.
-use super::runs::words_of;
 use gqlvalidate_words::parse;
+use std::alloc::Global;
 use std::process::Abort;
 
 /// Words, and what they ask for as its `Debug` shows it.
@@ -141,6 +141,15 @@ fn requests_are_read(rt: HostRuntime) {
     for (texts, wanted) in READ {
         asks(&rt, texts, wanted);
     }
+}
+
+fn words_of(rt: &impl Abort, alloc: Global, texts: &[&str]) -> Vec<String> {
+    let mut words = Vec::new(alloc);
+    for text in texts {
+        let word = String::from_str(alloc, text).expect(rt, "memory for a word");
+        words.push(word).expect(rt, "memory for a word");
+    }
+    words
 }
 
 fn asks<R: AllocGlobal + Abort>(rt: &R, texts: &[&str], wanted: &str) {
