@@ -3,12 +3,15 @@
 ghost use Rattle.std.specs.Prelude.{◌≡◌, ◌∷◌, ◌++◌, [], None, OnErr, OnOk, Some};
 ghost use Rattle.graphql_document_building.specs.BuildingRules.{SelectionBuilds, SelectionsBuild};
 ghost use Rattle.graphql_document_checking.specs.Reports.{IsSelectionReport, IsSetReport, SetBuilds, leaf_kind};
+ghost use Rattle.std.specs.Option.{option_copied};
 ghost use Rattle.graphql_building_reports.specs.Checks.{Checks, reports_of};
+ghost use Rattle.graphql_documents.specs.Schemas.{type_definition};
 ghost use Rattle.graphql_building_reports.specs.declared.rules.BuildingRule.TheVariants as rule;
 ghost use Rattle.graphql_trees.specs.declared.executable.Field.{out-Field};
 ghost use Rattle.graphql_trees.specs.declared.executable.Selection.TheVariants as tree_kind;
 
 use graphql_building_reports::{BuildingReportList, BuildingRule, LeafKind};
+use graphql_document_building::type_fields::field_of_type;
 use graphql_documents::documents::{ExtendedType, Schema};
 use graphql_nodes::{Name, NamedType, SourceSpan, ValidationError};
 use graphql_trees::{
@@ -31,8 +34,9 @@ pub fn check_selections(
 ) -> Result<(), ValidationError>
     ensures { Checks result (SelectionsBuild schema.now parent.now trees.now) (IsSelectionReport schema.now parent.now trees.now) reports.old reports.new }
 {
+    let parent_type = schema.types.get(parent);
     for tree in trees {
-        check_selection(reports, schema, parent, tree)?;
+        check_selection(reports, schema, parent, parent_type, tree)?;
     }
     Ok(())
 }
@@ -42,12 +46,14 @@ fn check_selection(
     reports: &mut BuildingReportList,
     schema: &Schema,
     parent: &NamedType,
+    parent_type: Option<&ExtendedType>,
     tree: &SelectionTree,
 ) -> Result<(), ValidationError>
+    requires { option_copied parent_type ≡ type_definition schema.now parent.now }
     ensures { Checks result (SelectionBuilds schema.now parent.now tree.now) (IsSelectionReport schema.now parent.now (tree.now ∷ [])) reports.old reports.new }
 {
     match tree {
-        SelectionTree::Field(field) => check_field(reports, schema, parent, field),
+        SelectionTree::Field(field) => check_field(reports, schema, parent, parent_type, field),
         SelectionTree::FragmentSpread(_spread) => Ok(()),
         SelectionTree::InlineFragment(fragment) => {
             check_inline_fragment(reports, schema, parent, fragment)
@@ -60,11 +66,13 @@ fn check_field(
     reports: &mut BuildingReportList,
     schema: &Schema,
     parent: &NamedType,
+    parent_type: Option<&ExtendedType>,
     tree: &FieldTree,
 ) -> Result<(), ValidationError>
+    requires { option_copied parent_type ≡ type_definition schema.now parent.now }
     ensures { Checks result (SelectionBuilds schema.now parent.now (tree_kind.Field tree.now)) (IsSelectionReport schema.now parent.now (tree_kind.Field tree.now ∷ [])) reports.old reports.new }
 {
-    match schema.type_field(parent, &tree.name) {
+    match field_of_type(schema, parent, parent_type, &tree.name) {
         Ok(definition) => {
             let ty = definition.node.value.ty.inner_named_type();
             check_set_below(reports, schema, ty, tree)
