@@ -106,14 +106,14 @@ impl fmt::Display for Type {
             Type::Named(name) => write!(f, "{name}"),
             Type::NonNullNamed(name) => write!(f, "{name}!"),
             Type::List(item) => {
-                write!(f, "[")?;
+                f.write_str("[")?;
                 (**item).fmt(f)?;
-                write!(f, "]")
+                f.write_str("]")
             }
             Type::NonNullList(item) => {
-                write!(f, "[")?;
+                f.write_str("[")?;
                 (**item).fmt(f)?;
-                write!(f, "]!")
+                f.write_str("]!")
             }
         }
     }
