@@ -1,8 +1,5 @@
 //! The texts of a run: of files, and of the literals in programs.
 
-ghost use Rattle.std.specs.Prelude.{IsTrue, []};
-ghost use Rattle.graphql_tokens.specs.Lexical.{AreTokens};
-
 use crate::client_texts::{answers_fields, say_arguments, texts_as_sent};
 use crate::programs::{ProgramTexts, texts_of_program};
 use crate::run_paths::Paths;
@@ -14,7 +11,7 @@ use graphql_documents::documents::Schema;
 use graphql_frontend::{FileId, SourceText};
 use graphql_literals::is_program;
 use graphql_parser::Bounds;
-use graphql_tokens::{Stop, measure};
+use graphql_tokens::has_no_token;
 use std::alloc::{AllocError, Global};
 use std::io::{Read, Write};
 use std::rt::Files;
@@ -77,13 +74,6 @@ fn add_views<'a>(texts: &mut Vec<&'a str>, strings: &'a [String]) -> Result<(), 
         texts.push(string.as_str())?;
     }
     Ok(())
-}
-
-/// Whether the text has no token.
-fn has_no_token(text: &str) -> bool
-    ensures { IsTrue result → AreTokens text.now [] }
-{
-    matches!(measure(text, 0).stop, Stop::End)
 }
 
 /// The files that could be read.

@@ -168,7 +168,7 @@ fn definitions_behind<'a>(
 {
     let mut found = found;
     let mut here = cursor;
-    for _turn in 0..cursor.left {
+    for _turn in 0..cursor.tokens.len() {
         if !here.has_more(More::Until(TokenKind::RightParenthesis)) {
             return Ok((packed(found), here));
         }

@@ -81,7 +81,7 @@ fn selections_behind<'a>(
 {
     let mut found = found;
     let mut here = cursor;
-    for _turn in 0..cursor.left {
+    for _turn in 0..cursor.tokens.len() {
         if !here.has_more(More::Until(TokenKind::RightBrace)) {
             return Ok((packed(found), here));
         }

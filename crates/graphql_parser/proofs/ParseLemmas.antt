@@ -2,7 +2,6 @@
 use Rattle.std.proofs.Common.{◌≡◌, ℕ, zero, suc, ◌-◌, ◌≤◌, List, [], ◌∷◌, ◌++◌, length, take, drop, None, Some, Result, Ok, Err, refl, sym, subst, ◌∙◌, ap, arith}
 use Rattle.std.proofs.lemmas.List.{append_assoc, append-nil, length-append, take-append-drop}
 use Rattle.graphql_nodes.specs.declared.spans.FileId.{FileId}
-use Rattle.graphql_tokens.specs.Ahead.{first_tokens}
 use Rattle.graphql_tokens.specs.Lexical.{AreTokens, Lexes, Scans}
 use Rattle.graphql_tokens.specs.declared.lexer.Stop.{Stop}
 use Rattle.graphql_tokens.specs.declared.lexer.Stop.TheVariants.{End, NoToken, TooMany}
@@ -208,16 +207,10 @@ stopped bounds file_id text tokens stop error tree s e read =
           subst (IsRefusal bounds file_id text) same (tokens, s.0, s.1, at_stop bounds file_id text tokens s.0.rest at c reaches s.0.lexes s.0.place)
 
 -- a cursor before all tokens
-same_input : (i : Input) (file_id : FileId) (text : List ℕ) (tokens : List Token) → i.file_id ≡ file_id → i.source ≡ text → i.tokens ≡ tokens → i.ended ≡ 0 →
+pub same_input : (i : Input) (file_id : FileId) (text : List ℕ) (tokens : List Token) → i.file_id ≡ file_id → i.source ≡ text → i.tokens ≡ tokens → i.ended ≡ 0 →
     i ≡ whole_input file_id text tokens
 same_input i file_id text tokens a b c d =
     ap (λ x. of x i.source i.tokens i.ended) a ∙ ap (λ x. of file_id x i.tokens i.ended) b ∙ ap (λ x. of file_id text x i.ended) c ∙
     ap (λ x. of file_id text tokens x) d where
       of : FileId → List ℕ → List Token → ℕ → Input
       of f s t e = record { file_id = f; source = s; tokens = t; ended = e }
-
--- a cursor before the tokens that were counted
-pub before_all : (i : Input) (file_id : FileId) (text source : List ℕ) (count : ℕ) → source ≡ text → i.file_id ≡ file_id → i.source ≡ source →
-    i.tokens ≡ first_tokens (length source) count source → i.ended ≡ 0 → i ≡ whole_input file_id text (first_tokens (length text) count text)
-before_all i file_id text source count s a b c d =
-    same_input i file_id text (first_tokens (length text) count text) a (b ∙ s) (c ∙ ap (λ x. first_tokens (length x) count x) s) d

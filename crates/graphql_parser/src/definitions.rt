@@ -63,7 +63,7 @@ fn definitions_behind<'a>(
 {
     let mut found = found;
     let mut here = cursor;
-    for _turn in 0..cursor.left {
+    for _turn in 0..cursor.tokens.len() {
         if !here.has_more(More::UntilEnd) {
             return Ok((packed(found), here));
         }
@@ -114,7 +114,7 @@ pub(crate) fn whole_document(
     ensures { Reads (λ tree. tree) result (whole_document_at depth (input cursor.entry)) }
 {
     let (document, end) = document(alloc, cursor, depth)?;
-    match end.next {
+    match end.next() {
         None => Ok(document),
         Some(_) => Err(end.refusal(Expected::Definition)),
     }

@@ -5,7 +5,6 @@ ghost use Rattle.graphql_parser.specs.Parses.{ParsesDocument, whole_input};
 ghost use Rattle.graphql_parser.specs.Refusals.{IsRefusal, refused_token, refusal_error, stop_error};
 ghost use Rattle.graphql_parser.specs.declared.errors.SyntaxError.TheVariants.{OutOfMemory};
 ghost use Rattle.graphql_syntax.specs.Reading.{Reads, input};
-ghost use Rattle.graphql_tokens.specs.Ahead.{first_tokens};
 ghost use Rattle.graphql_tokens.specs.Lexical.{Scans};
 ghost use Rattle.graphql_trees.specs.declared.documents.Document.{Document};
 
@@ -14,7 +13,7 @@ use crate::definitions::whole_document;
 use crate::errors::SyntaxError;
 use graphql_nodes::FileId;
 use graphql_syntax::{Cursor, Refusal};
-use graphql_tokens::{Extent, Stop, Token, measure};
+use graphql_tokens::{Scanned, Stop, Token, scan};
 use graphql_trees::Document;
 use std::alloc::Global;
 
@@ -36,10 +35,10 @@ pub fn parse_document(
         MatchResult result (λ found. found ≡ tree) (λ error. error ≡ OutOfMemory) }
     ensures refused { IfErr result (IsRefusal bounds file_id text.now) }
 {
-    if text.len() > u32::MAX as usize {
-        return Err(SyntaxError::OutOfMemory);
+    match scan(alloc, text, bounds.tokens) {
+        Err(_) => Err(SyntaxError::OutOfMemory),
+        Ok(scanned) => document_of_tokens(alloc, file_id, text, &scanned, bounds),
     }
-    document_of_tokens(alloc, file_id, text, measure(text, bounds.tokens), bounds)
 }
 
 /// The document that the tokens up to where their scan stopped are.
@@ -47,21 +46,19 @@ fn document_of_tokens(
     alloc: Global,
     file_id: FileId,
     text: &str,
-    extent: Extent,
+    scanned: &Scanned,
     bounds: Bounds,
 ) -> Result<Document, SyntaxError>
-    requires small { length text.now < 2 ^ 32 }
-    requires scanned { Scans bounds.tokens text.now (first_tokens (length text.now) extent.tokens text.now) extent.stop }
-    requires counted { length (first_tokens (length text.now) extent.tokens text.now) ≡ extent.tokens }
+    requires { Scans bounds.tokens text.now scanned.now.tokens.items scanned.now.stop }
     ensures found { IfOk result (ParsesDocument bounds file_id text.now) }
     ensures only { (tree : Document) → ParsesDocument bounds file_id text.now tree →
         MatchResult result (λ found. found ≡ tree) (λ error. error ≡ OutOfMemory) }
     ensures refused { IfErr result (IsRefusal bounds file_id text.now) }
 {
-    let cursor = Cursor::new(file_id, text.as_bytes(), extent.tokens);
+    let cursor = Cursor::new(file_id, text.as_bytes(), &scanned.tokens);
     match whole_document(alloc, cursor, bounds.depth) {
-        Err(refusal) => Err(refusal_error(refusal, cursor, extent.stop)),
-        Ok(document) => match stop_error(extent.stop) {
+        Err(refusal) => Err(refusal_error(refusal, cursor, scanned.stop)),
+        Ok(document) => match stop_error(scanned.stop) {
             Some(error) => Err(error),
             None => Ok(document),
         },
@@ -105,12 +102,12 @@ fn refusal_error(refusal: Refusal, cursor: Cursor, stop: Stop) -> SyntaxError
 fn refused_token(cursor: Cursor, left: usize) -> Option<Token>
     ensures { result ≡ refused_token left (input cursor.entry).tokens }
 {
-    if left > cursor.left {
+    if left > cursor.tokens.len() {
         return None;
     }
     let mut here = cursor;
-    for _turn in 0..cursor.left - left {
+    for _turn in 0..cursor.tokens.len() - left {
         here = here.behind();
     }
-    here.next
+    here.next()
 }

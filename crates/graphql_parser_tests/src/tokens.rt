@@ -1,4 +1,4 @@
-use graphql_tokens::{LexicalError, Stop, Token, TokenKind, measure, next_token, scan, tokens};
+use graphql_tokens::{LexicalError, Stop, has_no_token, scan, tokens};
 
 /// Texts, and how many tokens graphql-core reads in them.
 const COUNTS: [(&str, usize); 7] = [
@@ -51,34 +51,11 @@ fn tokens_above_the_bound_are_refused(rt: HostRuntime) {
 }
 
 #[test]
-fn tokens_are_counted_up_to_the_bound(rt: HostRuntime) {
-    for (text, count) in COUNTS {
-        let extent = measure(text, 100);
-        assert_eq!(rt;
-            (extent.tokens, extent.stop),
-            (count, Stop::End),
-            "in {text}"
-        );
+fn a_text_of_ignored_characters_has_no_token(rt: HostRuntime) {
+    for text in ["", " ,\t\r\n", "\u{feff}# a b"] {
+        assert!(rt; has_no_token(text), "in {text}");
     }
-    let extent = measure("a b c", 2);
-    assert_eq!(rt; (extent.tokens, extent.stop), (2, Stop::TooMany(4)));
-}
-
-#[test]
-fn the_next_token_is_cut_from_the_text(rt: HostRuntime) {
-    let text = " # first\r\n{ a }".as_bytes();
-    let next = next_token(text, 0, 3);
-    let brace = Token {
-        kind: TokenKind::LeftBrace,
-        start: 10,
-        end: 11,
-    };
-    assert_eq!(rt; next, Some(brace));
-    let name = Token {
-        kind: TokenKind::Name,
-        start: 12,
-        end: 13,
-    };
-    assert_eq!(rt; next_token(text, 11, 2), Some(name));
-    assert_eq!(rt; next_token(text, 0, 0), None);
+    for text in ["a", " # b\r}", "\""] {
+        assert!(rt; !has_no_token(text), "in {text}");
+    }
 }

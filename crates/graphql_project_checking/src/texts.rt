@@ -1,15 +1,14 @@
 //! Texts, and the documents that they are.
 
-ghost use Rattle.std.specs.Prelude.{◌≡◌, ◌≢◌, IfOk, IsTrue, OnOk, []};
+ghost use Rattle.std.specs.Prelude.{◌≡◌, ◌≢◌, IfOk, OnOk, []};
 ghost use Rattle.graphql_diagnostics.specs.Reports.{KeepsReports};
 ghost use Rattle.graphql_projects.specs.Projects.{ReadFiles};
 ghost use Rattle.graphql_project_checking.specs.Silence.{AddsIfToken, LeavesOutEmpty, SilentOnlyIf};
 ghost use Rattle.graphql_project_checking.specs.Truth.{AreErrorsOf, HasErrors, ParsedFiles};
-ghost use Rattle.graphql_projects.specs.Lexical.{AreTokens};
 
 use graphql_frontend::texts::parse_texts;
 use graphql_frontend::{Bounds, Reports, SourceText, SyntaxReport, ValidationError};
-use graphql_tokens::{Stop, measure};
+use graphql_tokens::has_no_token;
 use graphql_trees::Document;
 use std::alloc::Global;
 
@@ -71,11 +70,4 @@ fn add_if_token<'a>(
     }
     kept.push(source)?;
     Ok(())
-}
-
-/// Whether the text has no token.
-fn has_no_token(text: &str) -> bool
-    ensures { IsTrue result → AreTokens text.now [] }
-{
-    matches!(measure(text, 0).stop, Stop::End)
 }

@@ -3,7 +3,6 @@
 use Rattle.std.specs.Prelude.{◌≡◌, ℕ, zero, suc, not, true, List, [], ◌∷◌, ◌++◌, length, Option, None, Some, Result, Ok, Err, if◌then◌else◌}
 use Rattle.graphql_nodes.specs.Names.{NameText}
 use Rattle.graphql_nodes.specs.declared.spans.SourceSpan.{SourceSpan}
-use Rattle.graphql_tokens.specs.Ahead.{ahead}
 use Rattle.graphql_tokens.specs.declared.token.TokenKind.{TokenKind}
 use Rattle.graphql_tokens.specs.declared.token.TokenKind.TheVariants.{Name}
 use Rattle.graphql_syntax.specs.declared.cursor.Cursor.{Cursor}
@@ -24,7 +23,7 @@ abbrev pub input : Cursor → Input
 input c = record {
   file_id = c.file_id;
   source = c.source.now;
-  tokens = ahead c.source.now c.next c.left;
+  tokens = c.tokens.now;
   ended = c.ended;
 }
 

@@ -79,7 +79,7 @@ pub fn items_behind<'a, P: Production>(
 {
     let mut found = found;
     let mut here = cursor;
-    for _turn in 0..cursor.left {
+    for _turn in 0..cursor.tokens.len() {
         if !here.has_more(more) {
             return Ok((packed(found), here));
         }

@@ -12,7 +12,7 @@ use crate::keywords::Keyword;
 use crate::production::More;
 use crate::refusals::{Expected, Refusal};
 use graphql_nodes::{Name, SourceSpan};
-use graphql_tokens::{Token, TokenKind, next_token};
+use graphql_tokens::{Token, TokenKind};
 use std::alloc::{AllocError, Global};
 use std::str;
 
@@ -22,7 +22,7 @@ impl<'a> Cursor<'a> {
     pub fn sees(self, kind: TokenKind) -> bool
         ensures { result ≡ next_passes (is_kind kind) (input self.entry) }
     {
-        match self.next {
+        match self.next() {
             None => false,
             Some(token) => token.kind == kind,
         }
@@ -33,7 +33,7 @@ impl<'a> Cursor<'a> {
     pub fn sees_keyword(self, keyword: Keyword) -> bool
         ensures { result ≡ next_passes (is_keyword keyword) (input self.entry) }
     {
-        match self.next {
+        match self.next() {
             None => false,
             Some(token) => token.kind == TokenKind::Name
                 && text_of(self.source, token) == keyword.text().as_bytes(),
@@ -45,7 +45,7 @@ impl<'a> Cursor<'a> {
     pub fn sees_string(self) -> bool
         ensures { result ≡ next_passes is_string (input self.entry) }
     {
-        match self.next {
+        match self.next() {
             None => false,
             Some(token) => token.kind == TokenKind::StringValue
                 || token.kind == TokenKind::BlockString,
@@ -57,7 +57,7 @@ impl<'a> Cursor<'a> {
     pub fn has_more(self, more: More) -> bool
         ensures { result ≡ next_passes (more_test more) (input self.entry) }
     {
-        match self.next {
+        match self.next() {
             None => false,
             Some(token) => match more {
                 More::Until(closing) => token.kind != closing,
@@ -72,14 +72,13 @@ impl<'a> Cursor<'a> {
     pub fn behind(self) -> Cursor<'a>
         ensures { input result ≡ behind (input self.entry) }
     {
-        let Some(token) = self.next else {
+        let Some(token) = self.next() else {
             return self;
         };
-        let left = self.left - 1;
+        let (_, tokens) = self.tokens.split_at(1);
         Cursor {
             source: self.source,
-            left,
-            next: next_token(self.source, token.end, left),
+            tokens,
             ended: token.end,
             file_id: self.file_id,
         }
@@ -90,7 +89,7 @@ impl<'a> Cursor<'a> {
     pub fn start(self) -> u32
         ensures { result ≡ start_of (input self.entry) }
     {
-        match self.next {
+        match self.next() {
             None => self.ended,
             Some(token) => token.start,
         }
@@ -111,14 +110,14 @@ impl<'a> Cursor<'a> {
     pub fn refusal(self, expected: Expected) -> Refusal
         ensures { result ≡ Unexpected (length (input self.entry).tokens) expected }
     {
-        Refusal::Unexpected(self.left, expected)
+        Refusal::Unexpected(self.tokens.len(), expected)
     }
 
     /// The refusal of the next token, with which one bracket more opens than may be open.
     pub fn too_deep(self) -> Refusal
         ensures { result ≡ TooDeep (length (input self.entry).tokens) }
     {
-        Refusal::TooDeep(self.left)
+        Refusal::TooDeep(self.tokens.len())
     }
 
     /// The cursor behind the next token, which is to be of this kind.
@@ -166,7 +165,7 @@ impl<'a> Cursor<'a> {
     pub fn next_text(self) -> &'a [u8]
         ensures { result.now ≡ next_text (input self.entry) }
     {
-        match self.next {
+        match self.next() {
             None => &[],
             Some(token) => text_of(self.source, token),
         }

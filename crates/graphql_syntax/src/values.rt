@@ -75,7 +75,7 @@ fn values<'a>(
 {
     let mut found = Vec::new(alloc);
     let mut here = cursor;
-    for _turn in 0..cursor.left {
+    for _turn in 0..cursor.tokens.len() {
         if !here.has_more(More::Until(TokenKind::RightBracket)) {
             return Ok((packed(found), here));
         }
@@ -118,7 +118,7 @@ fn object_fields<'a>(
 {
     let mut found = Vec::new(alloc);
     let mut here = cursor;
-    for _turn in 0..cursor.left {
+    for _turn in 0..cursor.tokens.len() {
         if !here.has_more(More::Until(TokenKind::RightBrace)) {
             return Ok((packed(found), here));
         }

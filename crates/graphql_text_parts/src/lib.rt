@@ -7,4 +7,5 @@ pub mod parts;
 mod schema_heads;
 
 pub use graphql_blanks::Part;
-pub use parts::{faulty_schema_parts_beside, has_no_token, parts_beside, text_of_part};
+pub use graphql_tokens::has_no_token;
+pub use parts::{faulty_schema_parts_beside, parts_beside, text_of_part};

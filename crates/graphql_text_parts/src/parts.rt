@@ -1,8 +1,7 @@
 //! Parts of a text.
 
-ghost use Rattle.std.specs.Prelude.{◌≡◌, [], IfOk, IfSome, IsTrue, string_bytes};
+ghost use Rattle.std.specs.Prelude.{◌≡◌, IfOk, IfSome, string_bytes};
 ghost use Rattle.graphql_blanks.specs.Blanks.{part_text};
-ghost use Rattle.graphql_tokens.specs.Lexical.{AreTokens};
 
 use crate::groups::{Group, first_groups};
 use crate::heads::part_starts;
@@ -10,7 +9,7 @@ use crate::schema_heads::schema_part_starts;
 use graphql_blanks::{Part, blank};
 use graphql_nodes::{FileId, ValidationError};
 use graphql_parser::{Bounds, SyntaxError, parse_document};
-use graphql_tokens::{Stop, measure};
+use graphql_tokens::has_no_token;
 use std::alloc::{AllocError, Global};
 
 /// The file of trees whose places are not used.
@@ -205,13 +204,4 @@ fn others(alloc: Global, read: &[ReadPart], at: usize) -> Result<Vec<Part>, Vali
         }
     }
     Ok(parts)
-}
-
-/// Whether the text has no token.
-///
-/// Specification: 2.1.6 Lexical Tokens.
-pub fn has_no_token(text: &str) -> bool
-    ensures { IsTrue result → AreTokens text.now [] }
-{
-    matches!(measure(text, 0).stop, Stop::End)
 }

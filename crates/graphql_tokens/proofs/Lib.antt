@@ -7,4 +7,4 @@ pub mod IgnoredScans
 pub mod TokenScans
 pub mod LexingLemmas
 pub mod SuffixLemmas
-pub mod AheadLemmas
+pub mod IgnoredLemmas

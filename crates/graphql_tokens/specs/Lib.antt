@@ -1,4 +1,3 @@
-pub mod Ahead
 pub mod Characters
 pub mod Ignored
 pub mod Lexical

@@ -1,15 +1,17 @@
 //! The tokens of a whole text.
 
-ghost use Rattle.std.specs.Prelude.{◌≡◌, ◌^◌, ◌<◌, ◌≤◌, List, length, drop, IfOk, IfErr, IfSome, MatchResult};
-ghost use Rattle.graphql_tokens.specs.Ahead.{ahead, first_tokens};
-ghost use Rattle.graphql_tokens.specs.Lexical.{AreTokens, IsRefusal, Scans};
+ghost use Rattle.std.specs.Prelude.{◌≡◌, ◌^◌, ◌<◌, ◌≤◌, List, [], length, IfOk, IfErr, IsTrue, MatchResult};
+ghost use Rattle.graphql_tokens.specs.Lexical.{AreTokens, IsRefusal, Scans, token_between};
 ghost use Rattle.graphql_tokens.specs.declared.token.Token.{Token};
 
 use crate::ignored::after_ignored;
 use crate::scanner;
-use crate::token::Token;
+use crate::token::{Token, TokenKind};
 use std::alloc::{AllocError, Global};
 use thiserror::Error;
+
+/// A token and what is ignored before it have about so many bytes: memory is found at once for as many tokens.
+const BYTES_OF_TOKEN: usize = 5;
 
 /// Where a scan of a text stops.
 #[derive(Clone, Copy, Debug, PartialEq, Eq)]
@@ -72,92 +74,57 @@ pub fn tokens(alloc: Global, text: &str, bound: usize) -> Result<Vec<Token>, Lex
 pub fn scan(alloc: Global, text: &str, bound: usize) -> Result<Scanned, AllocError>
     ensures { IfOk result (λ scanned. Scans bound text.now scanned.tokens.items scanned.stop) }
 {
-    let source = text.as_bytes();
-    if source.len() > u32::MAX as usize {
+    if text.len() > u32::MAX as usize {
         return Err(AllocError);
     }
-    let extent = measure(text, bound);
-    let mut tokens = Vec::new(alloc);
-    let mut at = 0;
-    let mut left = extent.tokens;
-    while let Some(token) = next_token(source, at, left) {
-        tokens.push(token)?;
-        at = token.end;
-        left -= 1;
-    }
-    Ok(Scanned {
-        tokens,
-        stop: extent.stop,
-    })
+    let mut tokens = Vec::with_capacity(alloc, bound.min(text.len() / BYTES_OF_TOKEN))?;
+    let stop = scan_into(text, bound, &mut tokens)?;
+    Ok(Scanned { tokens, stop })
 }
 
-/// How many tokens a text has up to where a scan stops, and where that is.
-#[derive(Clone, Copy, Debug, PartialEq, Eq)]
-pub struct Extent {
-    pub tokens: usize,
-    pub stop: Stop,
-}
-
-/// Counts the tokens of the text, up to its end, to the first place where no token begins, or to the
-/// first token above the bound.
-///
-/// Specification: 2.1.6 Lexical Tokens.
-pub fn measure(text: &str, bound: usize) -> Extent
-    ensures scans { Scans bound text.now (first_tokens (length text.now) result.tokens text.now) result.stop }
-    ensures count { length (first_tokens (length text.now) result.tokens text.now) ≡ result.tokens }
+/// Adds the tokens of the text, and answers where the scan stopped.
+fn scan_into(text: &str, bound: usize, tokens: &mut Vec<Token>) -> Result<Stop, AllocError>
+    requires small { length text.now < 2 ^ 32 }
+    requires none { tokens.old.items ≡ [] }
+    ensures { IfOk result (λ stop. Scans bound text.now tokens.new.items stop) }
 {
     let source = text.as_bytes();
     let total = source.len();
-    let mut count = 0;
     let mut rest = after_ignored(source);
     while !rest.is_empty() {
-        let Some((_kind, behind)) = scanner::token(rest) else {
-            let stop = Stop::NoToken(total - rest.len());
-            return Extent {
-                tokens: count,
-                stop,
-            };
+        let Some((kind, behind)) = scanner::token(rest) else {
+            return Ok(Stop::NoToken(total - rest.len()));
         };
-        if count == bound {
-            let stop = Stop::TooMany(total - rest.len());
-            return Extent {
-                tokens: count,
-                stop,
-            };
+        if tokens.len() == bound {
+            return Ok(Stop::TooMany(total - rest.len()));
         }
-        count += 1;
+        tokens.push(token_between(total, kind, rest, behind))?;
         rest = after_ignored(behind);
     }
-    let stop = Stop::End;
-    Extent {
-        tokens: count,
-        stop,
-    }
+    Ok(Stop::End)
 }
 
-/// The next of so many tokens that are left of the text from this byte on, in a text below 4 GiB.
+/// Whether the text has no token: all of it is ignored.
 ///
-/// Specification: 2.1.6 Lexical Tokens.
-pub fn next_token(source: &[u8], at: u32, left: usize) -> Option<Token>
-    requires small { length source.now < 2 ^ 32 }
-    requires within { at ≤ length source.now }
-    ensures tokens { first_tokens (length source.now) left (drop at source.now) ≡ ahead source.now result left }
-    ensures end { IfSome result (λ token. token.end ≤ length source.now) }
+/// Specification: 2.1.7 Ignored Tokens.
+pub fn has_no_token(text: &str) -> bool
+    ensures none { IsTrue result → AreTokens text.now [] }
+    ensures only { AreTokens text.now [] → IsTrue result }
 {
-    if left == 0 {
-        return None;
-    }
-    let (_, text) = source.split_at(at as usize);
-    let start = after_ignored(text);
-    match scanner::token(start) {
-        None => None,
-        Some((kind, behind)) => {
-            let total = source.len() as u32;
-            Some(Token {
-                kind,
-                start: total - start.len() as u32,
-                end: total - behind.len() as u32,
-            })
-        }
+    after_ignored(text.as_bytes()).is_empty()
+}
+
+/// The token of this kind between what is left of a text of so many bytes and what is left after it.
+#[inline(always)]
+fn token_between(total: usize, kind: TokenKind, text: &[u8], rest: &[u8]) -> Token
+    requires small { total < 2 ^ 32 }
+    requires text { length text.now ≤ total }
+    requires rest { length rest.now ≤ total }
+    ensures { result ≡ token_between total kind text.now rest.now }
+{
+    Token {
+        kind,
+        start: (total - text.len()) as u32,
+        end: (total - rest.len()) as u32,
     }
 }

@@ -14,6 +14,6 @@ mod scanner;
 pub mod strings;
 pub mod token;
 
-pub use lexer::{Extent, LexicalError, Scanned, Stop, measure, next_token, scan, tokens};
+pub use lexer::{LexicalError, Scanned, Stop, has_no_token, scan, tokens};
 pub use strings::StringPart;
 pub use token::{Token, TokenKind};

@@ -70,7 +70,7 @@ fn more_until<'a, P: Part>(
 {
     let mut found = found;
     let mut here = cursor;
-    for _turn in 0..cursor.left {
+    for _turn in 0..cursor.tokens.len() {
         if !here.has_more(More::Until(closing)) {
             return Ok((packed(found), here));
         }
@@ -109,7 +109,7 @@ pub fn more_separated<'a, P: Part>(
 {
     let mut found = found;
     let mut here = cursor;
-    for _turn in 0..cursor.left {
+    for _turn in 0..cursor.tokens.len() {
         if !here.sees(separator) {
             return Ok((packed(found), here));
         }

@@ -1,4 +1,4 @@
-use Rattle.std.proofs.Common.{◌≡◌, ◌+◌, ◌*◌, ◌-◌}
+use Rattle.std.proofs.Common.{◌≡◌, ◌+◌, ◌*◌, ◌-◌, length}
 use Rattle.graphql_syntax.specs.Reading.{input, many_from, many_behind, more_test}
 use Rattle.graphql_syntax.specs.declared.production.More.TheVariants.{Until}
 use Rattle.graphql_tokens.specs.declared.token.TokenKind.TheVariants.{RightBrace}
@@ -39,4 +39,4 @@ decreases-in_braces l = 8 * l.depth + 7
 abbrev pub invariant-selections_behind-loop-turn : goal.invariant-selections_behind-loop-turn
 invariant-selections_behind-loop-turn l =
     many_behind (more_test (Until RightBrace)) (selection_at l.depth) l.fn.found.items (input l.fn.cursor) ≡
-    many_from (more_test (Until RightBrace)) (selection_at l.depth) (l.fn.cursor.left - l._turn) l.found.items (input l.here)
+    many_from (more_test (Until RightBrace)) (selection_at l.depth) (length l.fn.cursor.tokens.now - l._turn) l.found.items (input l.here)

@@ -1,4 +1,4 @@
-use Rattle.std.proofs.Common.{◌≡◌, ◌-◌}
+use Rattle.std.proofs.Common.{◌≡◌, ◌-◌, length}
 use Rattle.graphql_syntax.specs.Reading.{input, many_from, many_behind, more_test}
 use Rattle.graphql_syntax.proofs.production.items_behind.Given as goal
 
@@ -6,4 +6,4 @@ use Rattle.graphql_syntax.proofs.production.items_behind.Given as goal
 abbrev pub invariant-loop-turn : goal.invariant-loop-turn
 invariant-loop-turn g l =
     many_behind (more_test l.more) (g.P.Production.read_at l.constant l.depth) l.fn.found.items (input l.fn.cursor) ≡
-    many_from (more_test l.more) (g.P.Production.read_at l.constant l.depth) (l.fn.cursor.left - l._turn) l.found.items (input l.here)
+    many_from (more_test l.more) (g.P.Production.read_at l.constant l.depth) (length l.fn.cursor.tokens.now - l._turn) l.found.items (input l.here)

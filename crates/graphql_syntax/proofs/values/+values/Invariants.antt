@@ -1,4 +1,4 @@
-use Rattle.std.proofs.Common.{◌≡◌, ◌+◌, ◌*◌, ◌-◌, []}
+use Rattle.std.proofs.Common.{◌≡◌, ◌+◌, ◌*◌, ◌-◌, [], length}
 use Rattle.graphql_syntax.specs.Reading.{input, many_from, many_behind, more_test}
 use Rattle.graphql_syntax.specs.ValueReaders.{object_field_with, value_at}
 use Rattle.graphql_syntax.specs.declared.production.More.TheVariants.{Until}
@@ -27,9 +27,9 @@ decreases-object_field l = 4 * l.depth + 1
 abbrev pub invariant-values-loop-turn : goal.invariant-values-loop-turn
 invariant-values-loop-turn l =
     many_behind (more_test (Until RightBracket)) (value_at l.constant l.depth) [] (input l.fn.cursor) ≡
-    many_from (more_test (Until RightBracket)) (value_at l.constant l.depth) (l.fn.cursor.left - l._turn) l.found.items (input l.here)
+    many_from (more_test (Until RightBracket)) (value_at l.constant l.depth) (length l.fn.cursor.tokens.now - l._turn) l.found.items (input l.here)
 
 abbrev pub invariant-object_fields-loop-turn : goal.invariant-object_fields-loop-turn
 invariant-object_fields-loop-turn l =
     many_behind (more_test (Until RightBrace)) (object_field_with (value_at l.constant l.depth)) [] (input l.fn.cursor) ≡
-    many_from (more_test (Until RightBrace)) (object_field_with (value_at l.constant l.depth)) (l.fn.cursor.left - l._turn) l.found.items (input l.here)
+    many_from (more_test (Until RightBrace)) (object_field_with (value_at l.constant l.depth)) (length l.fn.cursor.tokens.now - l._turn) l.found.items (input l.here)
