@@ -76,9 +76,8 @@ adds_certain bounds whole first doubts reports old new in_doubt rejects =
     })
 
 -- the rules of reports on building
-pub rules_in_building : (reports : Reports) (list : BuildingReportList) → (reports ≡ Building list) ⊎ (reports ≡ FirstBuilding list) → rules_of list ≡ building_rules reports
-rules_in_building reports list (inl is) = ap building_rules (sym is)
-rules_in_building reports list (inr is) = ap building_rules (sym is)
+pub rules_in_building : (reports : Reports) (list : BuildingReportList) → reports ≡ Building list → rules_of list ≡ building_rules reports
+rules_in_building reports list is = ap building_rules (sym is)
 
 -- what the first rules say is in doubt, and nothing else yet
 pub first_in_doubt : (first : List BuildingRule) (doubts : SchemaDoubts) → AreDoubtsOf first doubts → IsInDoubt first doubts

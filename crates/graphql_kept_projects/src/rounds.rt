@@ -120,7 +120,7 @@ fn add_unreached_of(
     )
 }
 
-/// Adds what these reports say keeps texts from being built.
+/// Adds what these reports say keeps texts from being built. Of a list with more than the bounds keep, nothing is added.
 fn add_building_faults(
     alloc: Global,
     lists: &[Reports],
@@ -128,9 +128,7 @@ fn add_building_faults(
 ) -> Result<(), AllocError> {
     for reports in lists {
         match reports {
-            Reports::Building(list) | Reports::FirstBuilding(list) => {
-                add_faults(alloc, list, faults)?;
-            }
+            Reports::Building(list) => add_faults(alloc, list, faults)?,
             _ => {}
         }
     }

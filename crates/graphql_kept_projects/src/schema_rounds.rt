@@ -83,7 +83,7 @@ fn faults_of(
     Ok(faults)
 }
 
-/// What keeps texts from making a schema by these reports, if there are any, and they are of that.
+/// What keeps texts from making a schema by these reports, if there are any, and they are of that. Of more than the bounds keep, nothing is taken.
 fn faults_beside(
     alloc: Global,
     reports: &Option<Reports>,
@@ -92,9 +92,7 @@ fn faults_beside(
     ensures { (first : List building_rule.BuildingRule) → IsInDoubt first doubts.old → OnOk result (IsInDoubt first doubts.new) }
 {
     match reports {
-        Some(Reports::Building(list) | Reports::FirstBuilding(list)) => {
-            faults_of(alloc, list, doubts)
-        }
+        Some(Reports::Building(list)) => faults_of(alloc, list, doubts),
         _ => Ok(Faults::new(alloc)),
     }
 }

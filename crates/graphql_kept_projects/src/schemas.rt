@@ -31,7 +31,7 @@ pub fn all_reports_of_schema(
     Ok(lists)
 }
 
-/// The reports beside these first ones.
+/// The reports beside these first ones. If there are more than the bounds keep, no more are looked for.
 fn further_reports(
     alloc: Global,
     sources: &[SourceText<'_>],
@@ -43,9 +43,7 @@ fn further_reports(
 {
     match reports {
         Reports::Syntax(errors) => reports_of_parts(alloc, sources, errors, bounds),
-        Reports::Building(list) | Reports::FirstBuilding(list) if !is_subgraph => {
-            reports_of_left(alloc, sources, list, bounds)
-        }
+        Reports::Building(list) if !is_subgraph => { reports_of_left(alloc, sources, list, bounds) }
         _ => Ok(Vec::new(alloc)),
     }
 }
