@@ -41,7 +41,7 @@ pub(crate) fn expand_within<'doc, L: Ledger>(
 {
     let mut expansion = CountedExpansion {
         fragments,
-        fields: Vec::with_capacity(alloc, set.selections.len())?,
+        fields: Vec::new(alloc),
         visited: IndexSet::with_hasher(alloc, *fragments.hasher()),
         queue: VecDeque::new(alloc),
     };
